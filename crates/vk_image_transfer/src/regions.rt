@@ -51,7 +51,7 @@ impl<'r> RegionRows<'r> {
         ensures ok { IfOk result (λ r. r ≡ regions.now) }
         ensures many { IsErrOf result TooManyPieces → 2 ^ 64 ≤ sum_by areas.row_count regions.now }
     {
-        let mut counts = Counts::new(alloc)?;
+        let mut counts = Counts::new(alloc);
         for region in regions {
             counts.add(row_count(region.width, region.height, region.layers))?;
         }
@@ -124,7 +124,7 @@ impl<'r> ImageCopyRows<'r> {
         ensures ok { IfOk result (λ r. r ≡ regions.now) }
         ensures many { IsErrOf result TooManyPieces → 2 ^ 64 ≤ sum_by copy_rows regions.now }
     {
-        let mut counts = Counts::new(alloc)?;
+        let mut counts = Counts::new(alloc);
         for region in regions {
             counts.add(row_count(region.width, region.height, region.layers))?;
         }

@@ -3,3 +3,4 @@ pub mod Fills
 pub mod Updates
 pub mod Copies
 pub mod Counted
+pub mod Inner

@@ -1,4 +1,4 @@
-ghost use Rattle.std.specs.Prelude.{◌≡◌, ◌+◌, ◌-◌, ◌^◌, ◌<◌, ◌≤◌, [], ◌∷◌, ◌++◌, ℕ, List, length, slice_index, IfOk, OnOk, OnErr, IsErrOf};
+ghost use Rattle.std.specs.Prelude.{◌≡◌, ◌+◌, ◌-◌, ◌^◌, ◌<◌, ◌≤◌, [], ◌∷◌, ◌++◌, ℕ, List, length, slice_index, OnOk, OnErr, IsErrOf};
 ghost use Rattle.vk_transfer.specs.Counted.{all_counted};
 
 use std::alloc::{AllocError, AllocFailed, Global};
@@ -39,20 +39,25 @@ impl<T: Drop> From<AllocFailed<T>> for CopyError {
 }
 
 /// How many pieces come before each part of a command, to find the part that has a piece. Contracts
-/// see these numbers; the last is how many pieces there are.
+/// see these numbers; the last is how many pieces there are. One part takes no memory.
 #[derive(Drop)]
 pub struct Counts {
-    before: Vec<u64>,
+    /// How many pieces the first part has, where there is one.
+    first: Option<u64>,
+    /// Where there is more than one part, how many pieces come before each from the third on, and
+    /// at last all of them.
+    more: Vec<u64>,
 }
 
 impl Model for Counts {
-    ghost use Rattle.std.specs.Prelude.{List, ℕ, ◌<◌, length};
+    ghost use Rattle.std.specs.Prelude.{List, [], ℕ, None, ◌≡◌};
+    ghost use Rattle.vk_transfer.specs.Inner.Numbers.{numbers_of};
 
     ghost Value = { List ℕ };
 
-    ghost view = { λ c. c.before.items };
+    ghost view = { λ c. numbers_of c.first c.more.items };
 
-    ghost invariant = { λ c. 0 < length c.before.items };
+    ghost invariant = { λ c. c.first ≡ None → c.more.items ≡ [] };
 }
 
 /// The part that has a piece.
@@ -67,20 +72,17 @@ pub struct FoundPart {
 impl Counts {
     ghost use Rattle.vk_transfer.specs.declared.counts.CopyError.TheVariants.{TooManyPieces};
 
-    /// No parts yet.
-    ///
-    /// # Errors
-    /// Only want of memory.
-    pub fn new(alloc: Global) -> Result<Counts, CopyError>
-        ensures counts { IfOk result (λ c. c ≡ 0 ∷ []) }
-        ensures few { IsErrOf result TooManyPieces → ⊥ }
+    /// No parts yet. It takes no memory.
+    pub fn new(alloc: Global) -> Counts
+        ensures { result ≡ 0 ∷ [] }
     {
-        let mut before = Vec::new(alloc);
-        before.push(0)?;
-        Ok(Counts { before })
+        Counts {
+            first: None,
+            more: Vec::new(alloc),
+        }
     }
 
-    /// Counts one more part, of so many pieces.
+    /// Counts one more part, of so many pieces. The first one takes no memory.
     ///
     /// # Errors
     /// Where all together are more than a number of 64 bits says, and want of memory. Nothing is
@@ -91,8 +93,12 @@ impl Counts {
         ensures err { OnErr result (self.new ≡ self.old) }
     {
         match self.all().checked_add(pieces) {
-            Some(more) => {
-                self.before.push(more)?;
+            Some(all) => {
+                if self.first.is_none() {
+                    self.first = Some(all);
+                } else {
+                    self.more.push(all)?;
+                }
                 Ok(())
             }
             None => Err(CopyError::TooManyPieces),
@@ -103,11 +109,14 @@ impl Counts {
     pub fn all(&self) -> u64
         ensures { result ≡ all_counted self.now }
     {
-        self.before[self.before.len() - 1]
+        match self.first {
+            Some(first) => last_of(first, &self.more),
+            None => 0,
+        }
     }
 
-    /// Finds the part that has the piece of a number. Its time grows with the digits of the number
-    /// of parts.
+    /// Finds the part that has the piece of a number: the first at once, and in a time that grows
+    /// with the digits of the number of parts where there are more.
     pub fn find(&self, number: u64) -> FoundPart
         requires first { slice_index self.now 0 ≤ number }
         requires last { number < all_counted self.now }
@@ -115,10 +124,44 @@ impl Counts {
         ensures low { slice_index self.now result.part + result.number ≡ number }
         ensures high { number < slice_index self.now (result.part + 1) }
     {
-        let part = step_at(&self.before, number);
+        let first = self.first.unwrap_or(0);
+        if number < first {
+            FoundPart { part: 0, number }
+        } else {
+            find_after(first, &self.more, number)
+        }
+    }
+}
+
+/// The last of some numbers, of which one comes first.
+fn last_of(first: u64, more: &[u64]) -> u64
+    ensures { result ≡ slice_index (first ∷ more.now) (length more.now) }
+{
+    if more.is_empty() {
+        first
+    } else {
+        more[more.len() - 1]
+    }
+}
+
+/// Finds the part of a piece that comes after those of the first part.
+fn find_after(first: u64, more: &[u64], number: u64) -> FoundPart
+    requires first { first ≤ number }
+    requires last { number < slice_index (first ∷ more.now) (length more.now) }
+    ensures inside { result.part < length more.now + 1 }
+    ensures low { slice_index (0 ∷ first ∷ more.now) result.part + result.number ≡ number }
+    ensures high { number < slice_index (first ∷ more.now) result.part }
+{
+    if number < more[0] {
         FoundPart {
-            part,
-            number: number - self.before[part],
+            part: 1,
+            number: number - first,
+        }
+    } else {
+        let step = step_at(more, number);
+        FoundPart {
+            part: step + 2,
+            number: number - more[step],
         }
     }
 }

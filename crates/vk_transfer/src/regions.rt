@@ -48,7 +48,7 @@ impl<'r> CopyPieces<'r> {
         ensures ok { IfOk result (λ p. p ≡ regions.now) }
         ensures many { IsErrOf result TooManyPieces → (s d : ℕ) → 2 ^ 64 ≤ length (copy_pieces s d regions.now) }
     {
-        let mut counts = Counts::new(alloc)?;
+        let mut counts = Counts::new(alloc);
         for region in regions {
             counts.add(piece_count(region.size))?;
         }

@@ -14,7 +14,7 @@ none = record { buffer_offset = 0; row_length = 0; image_height = 0; level = 0; 
 pub returns-in_err-add-clause-many : goal.returns-in_err-add-clause-many
 returns-in_err-add-clause-many c = λ is.
     let within = more_within row_count c.args.regions.now c.loop-region.region-index c.row_count.result none c.loop-region.counts c.loop-region-test.true c.loop-region.invariant c.row_count.ensures in
-    let many = c.in_err-add.ensures.many (ap (λ (e : CopyError). Err e) (same_error c.from_residual-in_err-add.result c.in_err-add.field-0.0 TooManyPieces is c.from_residual-in_err-add.ensures.1)) in
+    let many = c.in_err-add.ensures.many (ap (λ (e : CopyError). Err e) (same_error c.from_residual.result c.in_err-add.field-0.0 TooManyPieces is c.from_residual.ensures.1)) in
     omega (arith, within, many)
 
 pub loop-region-preserved : goal.loop-region-preserved

@@ -1,4 +1,4 @@
-use Rattle.std.proofs.Common.{◌≡◌, ◌<◌, List, length, get_or, ap, sym, subst, ◌∙◌, arith}
+use Rattle.std.proofs.Common.{◌<◌, List, length, get_or, ap, sym, subst, ◌∙◌, arith}
 use Rattle.std.specs.List.{Contains}
 use Rattle.vk_model.specs.declared.command.BufferCopy.{BufferCopy}
 use Rattle.vk_transfer.specs.Copies.{copy_pieces, copy_piece, region_count}

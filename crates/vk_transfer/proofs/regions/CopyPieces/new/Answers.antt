@@ -1,4 +1,4 @@
-use Rattle.std.proofs.Common.{◌≡◌, ℕ, ◌+◌, List, length, ap, sym, subst, arith}
+use Rattle.std.proofs.Common.{ℕ, ◌+◌, List, ap, sym, subst, arith}
 use Rattle.vk_model.specs.declared.command.BufferCopy.{BufferCopy}
 use Rattle.vk_transfer.specs.Copies.{region_count}
 use Rattle.vk_transfer.specs.Counted.{AreCounted}
@@ -16,7 +16,7 @@ returns-in_err-add-clause-many c = λ is s d.
     let gs = c.args.regions.now in
     let i = c.loop-region.region-index in
     let within = more_within region_count gs i c.piece_count.result none c.loop-region.counts c.loop-region-test.true c.loop-region.invariant (region_sized gs i none c.piece_count.result c.piece_count.ensures) in
-    let many = c.in_err-add.ensures.many (ap (λ (e : CopyError). Err e) (same_error c.from_residual-in_err-add.result c.in_err-add.field-0.0 TooManyPieces is c.from_residual-in_err-add.ensures.1)) in
+    let many = c.in_err-add.ensures.many (ap (λ (e : CopyError). Err e) (same_error c.from_residual.result c.in_err-add.field-0.0 TooManyPieces is c.from_residual.ensures.1)) in
     omega (arith, within, many, copy_count s d gs)
 
 pub loop-region-preserved : goal.loop-region-preserved
