@@ -20,7 +20,9 @@ use crate::changes::{Change, change_by};
 use crate::families::family_of;
 use crate::objects::Objects;
 use crate::resource_contents::{ResourceContents, write_all};
+use crate::stretches::Stretch;
 use std::alloc::{AllocError, Global};
+use std::vec::Vec;
 use vk_ids::IdMap;
 use vk_image_tiles::has_bad_shape;
 use vk_model::{BufferInfo, ImageInfo, Length, SubresourceRange};
@@ -32,6 +34,8 @@ use vk_touches::{Bytes, ResourceAccess, Spot};
 pub struct Contents {
     pub(crate) alloc: Global,
     pub(crate) resources: IdMap<ResourceContents>,
+    /// Room for what the regions of a copy find; what is in it means nothing between copies.
+    pub(crate) stretches: Vec<Stretch>,
 }
 
 impl Contents {
@@ -42,6 +46,7 @@ impl Contents {
         Contents {
             alloc,
             resources: IdMap::new(alloc),
+            stretches: Vec::new(alloc),
         }
     }
 

@@ -13,7 +13,6 @@ ghost use Rattle.vk_history.specs.Contents.{AreCopiedNumbers, BecomesIn, IsLentW
 use crate::contents::Contents;
 use crate::families::family_of;
 use crate::resource_contents::lend_all;
-use crate::stretches::Stretch;
 use std::alloc::AllocError;
 use std::vec::Vec;
 use vk_image_bytes::ImageBytes;
@@ -32,8 +31,8 @@ impl Contents {
     ) -> Result<(), AllocError>
         ensures { OnOk result (AreCopiedNumbers self.old self.new source destination regions.now queue spot) }
     {
-        let stretches = self.lend(source, regions, queue, spot)?;
-        self.paste(destination, regions, stretches, queue, spot)?;
+        self.lend(source, regions, queue, spot)?;
+        self.paste(destination, regions, queue, spot)?;
         Ok(())
     }
 
@@ -93,36 +92,39 @@ impl Contents {
         }
     }
 
-    /// Reads the regions of a copy in its source, and answers what is found there.
+    /// Reads the regions of a copy in its source, and keeps what is found there.
     fn lend(
         &mut self,
         source: u32,
         regions: &[BufferCopy],
         queue: u32,
         spot: Spot,
-    ) -> Result<Vec<Stretch>, AllocError>
-        ensures here { IfOk result (λ stretches. BecomesIn (IsLentWith regions.now stretches.items queue spot) (value_of self.old.resources source) (value_of self.new.resources source)) }
+    ) -> Result<(), AllocError>
+        ensures here { OnOk result (BecomesIn (IsLentWith regions.now self.new.stretches.items queue spot) (value_of self.old.resources source) (value_of self.new.resources source)) }
         ensures others { OnOk result ((other : ℕ) → other ≢ source → value_of self.new.resources other ≡ value_of self.old.resources other) }
     {
-        let alloc = self.alloc;
+        let stretches = &mut self.stretches;
         match self.resources.get_mut(source) {
-            Some(contents) => lend_all(contents, alloc, regions, queue, spot),
-            None => Ok(Vec::new(alloc)),
+            Some(contents) => lend_all(contents, regions, stretches, queue, spot),
+            None => {
+                stretches.clear();
+                Ok(())
+            }
         }
     }
 
-    /// Writes what was found in a copy's source to its destination.
+    /// Writes what was found in a copy's source, and is kept, to its destination.
     fn paste(
         &mut self,
         destination: u32,
         regions: &[BufferCopy],
-        stretches: Vec<Stretch>,
         queue: u32,
         spot: Spot,
     ) -> Result<(), AllocError>
-        ensures here { OnOk result (BecomesIn (λ old new. IsPasted old new regions.now stretches.items (family_of queue) spot) (value_of self.old.resources destination) (value_of self.new.resources destination)) }
+        ensures here { OnOk result (BecomesIn (λ old new. IsPasted old new regions.now self.old.stretches.items (family_of queue) spot) (value_of self.old.resources destination) (value_of self.new.resources destination)) }
         ensures others { OnOk result ((other : ℕ) → other ≢ destination → value_of self.new.resources other ≡ value_of self.old.resources other) }
     {
+        let stretches = &mut self.stretches;
         match self.resources.get_mut(destination) {
             Some(contents) => contents.paste(regions, stretches, family_of(queue), spot),
             None => Ok(()),

@@ -1,5 +1,6 @@
 ghost use Rattle.std.specs.Prelude.{◌≡◌, ◌≢◌, ◌<◌, get_or, ◌+◌, ◌++◌, ◌∷◌, [], ℕ, List, OnOk, IfSome, Bool, true, false, not, ◌&&◌, IsTrue, Contains, Some, None, length, slice_get, map, if◌then◌else◌, option_map};
 ghost use Rattle.std.specs.List.{list_any};
+ghost use Rattle.vk_ids.specs.Ids.{value_of};
 ghost use Rattle.vk_model.specs.Trace.Point.{Past, Run};
 ghost use Rattle.vk_model.specs.Basics.{option_list};
 ghost use Rattle.vk_model.specs.World.Ownership.{uses, named_by};
@@ -183,6 +184,7 @@ impl LastUses {
         Ok(())
     }
 
+    #[inline(always)]
     fn keep_some(&mut self, id: Option<u32>, last: LastUse) -> Result<(), AllocError>
         ensures { OnOk result (AreKeptNow self.old self.new (option_list id) last) }
     {
@@ -192,28 +194,37 @@ impl LastUses {
         }
     }
 
+    #[inline(always)]
     fn keep(&mut self, id: u32, last: LastUse) -> Result<(), AllocError>
         ensures { OnOk result (AreKeptNow self.old self.new (id ∷ []) last) }
     {
         match self.uses.get_mut(id) {
             Some(kept) => keep_in(kept, last),
-            None => {
-                let mut kept = Vec::new(self.alloc);
-                kept.push(last)?;
-                self.uses.put(id, kept)?;
-                Ok(())
-            }
+            None => self.keep_first(id, last),
         }
+    }
+
+    /// Keeps the first use of a resource.
+    #[inline(never)]
+    fn keep_first(&mut self, id: u32, last: LastUse) -> Result<(), AllocError>
+        requires { value_of self.old.uses id ≡ None }
+        ensures { OnOk result (AreKeptNow self.old self.new (id ∷ []) last) }
+    {
+        let mut kept = Vec::new(self.alloc);
+        kept.push(last)?;
+        self.uses.put(id, kept)?;
+        Ok(())
     }
 }
 
 /// Keeps a use in the place of that of its line.
+#[inline(always)]
 fn keep_in(kept: &mut Vec<LastUse>, last: LastUse) -> Result<(), AllocError>
     ensures { OnOk result (IsKeptNow kept.old.items kept.new.items last) }
 {
     match on_line(kept.as_slice(), last.line) {
         Some(at) => {
-            kept[at] = last;
+            kept[at].place = last.place;
             Ok(())
         }
         None => {
@@ -224,6 +235,7 @@ fn keep_in(kept: &mut Vec<LastUse>, last: LastUse) -> Result<(), AllocError>
 }
 
 /// Where the use of a line is among those that are kept.
+#[inline(always)]
 fn on_line(kept: &[LastUse], line: Line) -> Option<usize>
     ensures { IfSome result (λ i. (i < length kept.now) × ((d : AnyUse) → (get_or kept.now i d).line ≡ line)) }
 {

@@ -126,15 +126,16 @@ impl ResourceContents {
         Ok(())
     }
 
-    /// After a command has written the regions of a copy on a queue of a family.
+    /// After a command has written the regions of a copy on a queue of a family; that uses up the
+    /// stretches.
     pub(crate) fn paste(
         &mut self,
         regions: &[BufferCopy],
-        stretches: Vec<Stretch>,
+        stretches: &mut Vec<Stretch>,
         family: u32,
         spot: Spot,
     ) -> Result<(), AllocError>
-        ensures { OnOk result (IsPasted self.old self.new regions.now stretches.items family spot) }
+        ensures { OnOk result (IsPasted self.old self.new regions.now stretches.old.items family spot) }
     {
         self.take_over(family)?;
         define_all(&mut self.defined, stretches)?;
@@ -173,16 +174,17 @@ pub(crate) fn write_all(
     contents.write(offset, bytes, family_of(queue), spot)
 }
 
-/// After a command of a queue has read the regions of a copy, with what is found there.
+/// After a command of a queue has read the regions of a copy, with what is found there in place of
+/// other stretches.
 pub(crate) fn lend_all(
     contents: &mut ResourceContents,
-    alloc: Global,
     regions: &[BufferCopy],
+    stretches: &mut Vec<Stretch>,
     queue: u32,
     spot: Spot,
-) -> Result<Vec<Stretch>, AllocError>
-    ensures { IfOk result (λ stretches. IsLentWith regions.now stretches.items queue spot contents.old contents.new) }
+) -> Result<(), AllocError>
+    ensures { OnOk result (IsLentWith regions.now stretches.new.items queue spot contents.old contents.new) }
 {
     contents.lend(regions, queue, spot)?;
-    copies(&contents.defined, alloc, regions)
+    copies(&contents.defined, regions, stretches)
 }

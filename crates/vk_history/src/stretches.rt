@@ -1,8 +1,8 @@
-ghost use Rattle.std.specs.Prelude.{◌≡◌, ◌+◌, ◌≤◌, ◌∷◌, [], ℕ, OnOk, IfOk, length, slice_get, unwrap_or};
+ghost use Rattle.std.specs.Prelude.{◌≡◌, ◌+◌, ◌≤◌, ◌∷◌, [], ℕ, OnOk, length, slice_get, unwrap_or};
 ghost use Rattle.std.specs.Option.{option_map, option_or};
 ghost use Rattle.vk_history.specs.Contents.{AreCopied, stretch_at, copied_at};
 
-use std::alloc::{AllocError, Global};
+use std::alloc::AllocError;
 use vk_model::BufferCopy;
 use vk_ranges::RangeMap;
 use vk_touches::Part;
@@ -20,19 +20,19 @@ pub struct Stretch {
     pub is_defined: bool,
 }
 
-/// What the regions of a copy find in their source.
+/// What the regions of a copy find in their source, in place of other stretches.
 pub fn copies(
     defined: &RangeMap<bool>,
-    alloc: Global,
     regions: &[BufferCopy],
-) -> Result<Vec<Stretch>, AllocError>
-    ensures { IfOk result (λ stretches. AreCopied stretches.items defined.now regions.now) }
+    stretches: &mut Vec<Stretch>,
+) -> Result<(), AllocError>
+    ensures { OnOk result (AreCopied stretches.new.items defined.now regions.now) }
 {
-    let mut stretches = Vec::new(alloc);
+    stretches.clear();
     for region in regions {
-        push_copies(defined, region, &mut stretches)?;
+        push_copies(defined, region, stretches)?;
     }
-    Ok(stretches)
+    Ok(())
 }
 
 /// Adds what one region finds.
@@ -57,13 +57,13 @@ fn push_copies(
 }
 
 /// Gives the bytes of stretches what is said of them; of several that have a byte the first one
-/// decides, so they are taken from the last on.
+/// decides, so they are taken from the last on, until none is left.
 pub fn define_all(
     defined: &mut RangeMap<bool>,
-    mut stretches: Vec<Stretch>,
+    stretches: &mut Vec<Stretch>,
 ) -> Result<(), AllocError>
     ensures len { length defined.new ≡ length defined.old }
-    ensures values { OnOk result ((k : ℕ) → slice_get defined.new k ≡ option_map (unwrap_or (stretch_at stretches.items k)) (slice_get defined.old k)) }
+    ensures values { OnOk result ((k : ℕ) → slice_get defined.new k ≡ option_map (unwrap_or (stretch_at stretches.old.items k)) (slice_get defined.old k)) }
 {
     while let Some(stretch) = stretches.pop() {
         define_stretch(defined, &stretch)?;
