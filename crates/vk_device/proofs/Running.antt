@@ -1,7 +1,8 @@
 -- A piece that runs on a device.
-use Rattle.std.proofs.Common.{◌≡◌, arith, length, false, inl, inr, ℕ, suc, List, [], ◌∷◌, ◌++◌, map, ◌==◌, eq-eqb, refl, ap, sym, ◌∙◌, subst, IsTrue, Option, Some, None}
+use Rattle.std.proofs.Common.{◌≡◌, arith, length, get_or, false, inl, inr, ℕ, suc, List, [], ◌∷◌, ◌++◌, map, ◌==◌, eq-eqb, refl, ap, sym, ◌∙◌, subst, IsTrue, Option, Some, None}
 use Rattle.std.proofs.lemmas.Bool.{eqb-true, not-true}
 use Rattle.std.proofs.lemmas.List.{length-map}
+use Rattle.std.proofs.lemmas.Option.{slice_get_within, slice_get-get_or}
 use Rattle.std.specs.Prelude.{Contains, slice_get}
 use Rattle.std.specs.List.{enumerate_from}
 use Rattle.vk_model.specs.declared.command.Cmd.{Cmd}
@@ -120,6 +121,12 @@ module _ (past : Past) (done : List Name) (o : Offers) (is : IsOffers o past don
       let c = get_some works piece.command (omega (arith, low, long)) in
       (c.0, c.1, piece_of o past done is piece at c.0 (sym (ap (λ (l : List Act). slice_get l piece.command) all) ∙ get_mapped Runs works piece.command c.0 c.1))
 
+  -- which is found among them by the piece's command
+  pub work_here : (works : List Cmd) → AreWorks works past → (y : Cmd) → y ≡ get_or works piece.command y → slice_get works piece.command ≡ Some y
+  work_here works are y found =
+      let work = work_of works are in
+      slice_get-get_or works piece.command y (slice_get_within works piece.command work.0 work.1) ∙ ap (λ (c : Cmd). Some c) (sym found)
+
   -- and hasn't run
   pub unrun : (n : Node) → slice_get (commands_in (nodes past)) piece.command ≡ Some n → is_done done (n.number, piece.index) ≡ false
   unrun n here =
@@ -174,10 +181,17 @@ module _ (t : List Entry) (steps : List Step) (s : Stage) (d : Device) (led : Le
       let after = law t steps s led.memory (name_of s.front.past piece) c w v faultless led.run (is_offered s.front.past s.done d.offers led.offers piece at) write means in
       ran c ∙ stored_same (byte_at d.resources) led.memory.region (write_to c ms) c (λ none. let both : None ≡ Some w = sym none ∙ write in absurd cc) (λ w e is from. sym (led.holds e (sources c w e is from)).region) ∙ after
 
+-- what is so of the command of a piece that may run
+pub record IsRunnable (past : Past) (d : Device) (piece : Piece) (y : Cmd) : Type 0 where
+  pub ready : PieceReady d.resources y piece.index
+  pub fit : FitsCommand past y
+  pub content : slice_get (pieces past y) piece.index ≡ Some (named_piece past (name_of past piece))
+  pub sources : (c : Byte) (w : ByteWrite) (e : Byte) → write_to c (named_piece past (name_of past piece)) ≡ Some w → w.source ≡ From e → IsThere d.resources e
+
 -- ---- the command of a piece that may run
 
 module _ (t : List Entry) (steps : List Step) (s : Stage) (d : Device) (led : Led t steps s d) (piece : Piece) (at : Contains (ready d.offers.ready) piece) (y : Cmd) (here : slice_get d.works.items piece.command ≡ Some y) where
-  pub piece_is_of : IsPieceOf s.front.past piece y
+  piece_is_of : IsPieceOf s.front.past piece y
   piece_is_of =
       let w = work_of s.front.past s.done d.offers led.offers piece at d.works.items led.works in
       let both : Some w.0 ≡ Some y = sym w.1 ∙ here in
@@ -188,19 +202,28 @@ module _ (t : List Entry) (steps : List Step) (s : Stage) (d : Device) (led : Le
     present : Contains (nodes s.front.past) piece_is_of.node
     present = (command_at (nodes s.front.past) piece.command piece_is_of.node piece_is_of.here).0
 
-    pub its_fit : FitsCommand s.front.past y
+    its_fit : FitsCommand s.front.past y
     its_fit = node_fits s.front.past fits piece_is_of.node y present piece_is_of.runs
 
-    pub its_alive : NamesLive s.front.past y
+    its_alive : NamesLive s.front.past y
     its_alive i kind asked =
         names t steps s piece_is_of.node y piece.index i kind run faultless present piece_is_of.runs piece_is_of.among
         (unrun s.front.past s.done d.offers led.offers piece at piece_is_of.node piece_is_of.here) asked
 
-    pub piece_ready : PieceReady d.resources y piece.index
+    piece_ready : PieceReady d.resources y piece.index
     piece_ready = record { past = s.front.past; matches = led.matches; fits = its_fit; alive = its_alive; below = piece_is_of.among }
 
-    pub its_content : OfferedArePieces → slice_get (pieces s.front.past y) piece.index ≡ Some (named_piece s.front.past (name_of s.front.past piece))
+    its_content : OfferedArePieces → slice_get (pieces s.front.past y) piece.index ≡ Some (named_piece s.front.past (name_of s.front.past piece))
     its_content law = named_content s.front.past s.done d.offers led.offers piece at law y piece_is_of
 
-    pub its_sources : OfferedArePieces → PiecesAreByteWrites → (c : Byte) (w : ByteWrite) (e : Byte) → write_to c (named_piece s.front.past (name_of s.front.past piece)) ≡ Some w → w.source ≡ From e → IsThere d.resources e
+    its_sources : OfferedArePieces → PiecesAreByteWrites → (c : Byte) (w : ByteWrite) (e : Byte) → write_to c (named_piece s.front.past (name_of s.front.past piece)) ≡ Some w → w.source ≡ From e → IsThere d.resources e
     its_sources law together = sources_there s.front.past d.resources led.matches together y piece.index (named_piece s.front.past (name_of s.front.past piece)) its_fit its_alive (its_content law)
+
+    by_laws : OfferedArePieces → PiecesAreByteWrites → IsRunnable s.front.past d piece y
+    by_laws law together = record { ready = piece_ready; fit = its_fit; content = its_content law; sources = its_sources law together }
+
+-- the command that a device has made ready for a piece that may run
+pub runnable : (t : List Entry) (steps : List Step) (s : Stage) (d : Device) (led : Led t steps s d) (piece : Piece) (at : Contains (ready d.offers.ready) piece) (y : Cmd) → y ≡ get_or d.works.items piece.command y
+    → RunOf t steps s → first_fault t ≡ None → CommandsNameLive → AllFit s.front.past → OfferedArePieces → PiecesAreByteWrites → IsRunnable s.front.past d piece y
+runnable t steps s d led piece at y found run faultless names fits law together =
+    by_laws t steps s d led piece at y (work_here s.front.past s.done d.offers led.offers piece at d.works.items led.works y found) run faultless names fits law together

@@ -214,6 +214,7 @@ impl<'a> Device<'a> {
         commands_name_live();
         growth_keeps();
         let points = points_after(self.alloc, &mut self.waiting, self.count, entry)?;
+        self.works.reserve(points.len())?;
         for point in points.as_slice() {
             let pieces = self.prepare(point)?;
             self.offers.add(point, pieces)?;

@@ -10,7 +10,7 @@ use Rattle.vk_device.proofs.Coming.{coming, prepare_ready, prepared_next, past_m
 use Rattle.vk_device.proofs.device.Device.advance.Goals as goal
 
 pub loop-point-init : goal.loop-point-init
-loop-point-init c = record { resources = refl; waiting = refl; count = refl; failed = refl; offers = λ t steps s xs atoms h. h.offers; works = λ t steps s xs atoms h. h.works }
+loop-point-init c = record { resources = refl; waiting = refl; count = refl; failed = refl; offers = λ t steps s xs atoms h. h.offers; works = λ t steps s xs atoms h. rw c.reserve.ensures.items h.works }
 
 pub prepare-requires : goal.prepare-requires
 prepare-requires c =
