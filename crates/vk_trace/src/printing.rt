@@ -1,5 +1,6 @@
 ghost use Rattle.std.specs.Prelude.{◌≡◌, ◌++◌, IfOk, OnOk, string_bytes};
 ghost use Rattle.std.specs.List.{flat_map};
+ghost use Rattle.hex.specs.Hex.{encode_lower};
 ghost use Rattle.vk_trace.specs.Text.{read_line, stop_line, lines_of};
 
 use std::alloc::{AllocError, Global};
@@ -15,6 +16,9 @@ pub enum Outcome {
     /// The first point that breaks a rule, and the rule.
     Refused(At, Rule),
 }
+
+/// How many bytes are written as digits at a time.
+const AT_ONCE: usize = 4096;
 
 /// The text of an outcome: `5 01020304` for a read, `stopped 6 NO_ROOM`, or `refused 2.0.1 STAGE`,
 /// each a line.
@@ -50,9 +54,22 @@ fn push_read(alloc: Global, out: &mut String, entry: usize, bytes: &[u8]) -> Res
 {
     push_number(out, entry)?;
     out.push_str(" ")?;
-    let digits = hex::encode(alloc, bytes)?;
-    out.push_str(digits.as_str())?;
+    push_digits(alloc, out, bytes)?;
     out.push_str("\n")
+}
+
+/// Adds two digits for each byte, some bytes at a time: those of a long read aren't held twice.
+fn push_digits(alloc: Global, out: &mut String, bytes: &[u8]) -> Result<(), AllocError>
+    ensures { OnOk result (string_bytes out.new ≡ string_bytes out.old ++ encode_lower bytes.now) }
+{
+    let mut rest = bytes;
+    while !rest.is_empty() {
+        let (part, later) = rest.split_at(rest.len().min(AT_ONCE));
+        let digits = hex::encode(alloc, part)?;
+        out.push_str(digits.as_str())?;
+        rest = later;
+    }
+    Ok(())
 }
 
 fn push_stop(out: &mut String, stop: Option<usize>) -> Result<(), AllocError>
