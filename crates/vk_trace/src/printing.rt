@@ -1,11 +1,10 @@
 ghost use Rattle.std.specs.Prelude.{◌≡◌, ◌++◌, IfOk, OnOk, string_bytes};
 ghost use Rattle.std.specs.List.{flat_map};
-ghost use Rattle.hex.specs.Hex.{encode_lower};
 ghost use Rattle.vk_trace.specs.Text.{read_line, stop_line, lines_of};
 
 use std::alloc::{AllocError, Global};
 use vk_model::{At, Rule, Sequence};
-use vk_words::{push_at, push_number};
+use vk_words::{push_at, push_digits, push_number};
 
 /// What there is to report of a trace. Entries are named by their place in the trace, from 0 on.
 #[derive(Debug, Drop)]
@@ -17,9 +16,6 @@ pub enum Outcome {
     Refused(At, Rule),
 }
 
-/// How many bytes are written as digits at a time.
-const AT_ONCE: usize = 4096;
-
 /// The text of an outcome: `5 01020304` for a read, `stopped 6 NO_ROOM`, or `refused 2.0.1 STAGE`,
 /// each a line.
 pub fn text(alloc: Global, outcome: &Outcome) -> Result<String, AllocError>
@@ -28,7 +24,7 @@ pub fn text(alloc: Global, outcome: &Outcome) -> Result<String, AllocError>
     let mut out = String::new(alloc);
     match outcome {
         Outcome::Reads(reads, stop) => {
-            push_reads(alloc, &mut out, reads.as_slice())?;
+            push_reads(&mut out, reads.as_slice())?;
             push_stop(&mut out, *stop)?;
         }
         Outcome::Refused(at, rule) => push_refusal(&mut out, *at, *rule)?,
@@ -36,40 +32,22 @@ pub fn text(alloc: Global, outcome: &Outcome) -> Result<String, AllocError>
     Ok(out)
 }
 
-fn push_reads(
-    alloc: Global,
-    out: &mut String,
-    reads: &[(usize, Sequence<u8>)],
-) -> Result<(), AllocError>
+fn push_reads(out: &mut String, reads: &[(usize, Sequence<u8>)]) -> Result<(), AllocError>
     ensures { OnOk result (string_bytes out.new ≡ string_bytes out.old ++ flat_map read_line reads.now) }
 {
     for (entry, bytes) in reads {
-        push_read(alloc, out, *entry, bytes.as_slice())?;
+        push_read(out, *entry, bytes.as_slice())?;
     }
     Ok(())
 }
 
-fn push_read(alloc: Global, out: &mut String, entry: usize, bytes: &[u8]) -> Result<(), AllocError>
+fn push_read(out: &mut String, entry: usize, bytes: &[u8]) -> Result<(), AllocError>
     ensures { OnOk result (string_bytes out.new ≡ string_bytes out.old ++ read_line (entry, bytes.now)) }
 {
     push_number(out, entry)?;
     out.push_str(" ")?;
-    push_digits(alloc, out, bytes)?;
+    push_digits(out, bytes)?;
     out.push_str("\n")
-}
-
-/// Adds two digits for each byte, some bytes at a time: those of a long read aren't held twice.
-fn push_digits(alloc: Global, out: &mut String, bytes: &[u8]) -> Result<(), AllocError>
-    ensures { OnOk result (string_bytes out.new ≡ string_bytes out.old ++ encode_lower bytes.now) }
-{
-    let mut rest = bytes;
-    while !rest.is_empty() {
-        let (part, later) = rest.split_at(rest.len().min(AT_ONCE));
-        let digits = hex::encode(alloc, part)?;
-        out.push_str(digits.as_str())?;
-        rest = later;
-    }
-    Ok(())
 }
 
 fn push_stop(out: &mut String, stop: Option<usize>) -> Result<(), AllocError>

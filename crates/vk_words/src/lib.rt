@@ -3,6 +3,7 @@
 
 mod commands;
 mod counts;
+mod digits;
 mod elements;
 mod entries;
 mod masks;
@@ -12,6 +13,7 @@ mod ranges;
 mod rules;
 
 pub use counts::push_count;
+pub use digits::push_digits;
 pub use masks::push_mask;
 pub use names::{format_name, sharing_name, tiling_name};
 pub use points::{kind_name, point_words, push_at, push_number};

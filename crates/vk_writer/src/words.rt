@@ -1,5 +1,6 @@
 use std::alloc::AllocError;
 use vk_model::{Length, Place, PoolKind};
+use vk_words::push_digits;
 
 /// The word for how the blocks of a pool are placed.
 pub fn algorithm_word(kind: PoolKind) -> &'static str {
@@ -29,8 +30,7 @@ pub fn push_length(out: &mut String, length: Length) -> Result<(), AllocError> {
 
 /// Adds bytes as a string of lower hex.
 pub fn push_bytes(out: &mut String, bytes: &[u8]) -> Result<(), AllocError> {
-    let digits = hex::encode(*out.allocator(), bytes)?;
     out.push_str("\"")?;
-    out.push_str(digits.as_str())?;
+    push_digits(out, bytes)?;
     out.push_str("\"")
 }
