@@ -61,7 +61,8 @@ pub fn run<R: Read, W: Write, S: Scheduler>(
     ensures done { IfOk result (λ status. IfSome (R.remaining reader.old.inner) (λ input.
         (text : List ℕ) × (outcome : Outcome) × (r : Reports config input text outcome) × (status ≡ status_of outcome)
         × Leaves S.answer S.next r.entries outcome (S.held sched.old) (S.held sched.new)
-        × Appends (W.contents writer.old.inner) (W.contents writer.new.inner) text)) }
+        × Appends (W.contents writer.old.inner) (W.contents writer.new.inner) text
+        × (writer.new.calls ≤ writer.old.calls + length text))) }
     // There is no trace only where the bytes are none.
     ensures no_trace { result ≡ Err RunError.NotTrace
         → IfSome (R.remaining reader.old.inner) (λ input. (t : List Entry) → IsTrace input t → ⊥) }
@@ -72,6 +73,7 @@ pub fn run<R: Read, W: Write, S: Scheduler>(
     ensures sent { (n : ℕ) → result ≡ Err (RunError.WriteFault n)
         → IfSome (R.remaining reader.old.inner) (λ input. (text : List ℕ) × (outcome : Outcome)
         × Reports config input text outcome × (n ≤ length text)
+        × (writer.new.calls ≤ writer.old.calls + length text)
         × Appends (W.contents writer.old.inner) (W.contents writer.new.inner) (take n text)) }
     ensures read_fault { (result ≡ Err RunError.ReadFault) ↔ IsTrue reader.new.failed }
     ensures write_fault { (n : ℕ) → result ≡ Err (RunError.WriteFault n) → IsTrue writer.new.failed }
@@ -206,6 +208,7 @@ pub fn write_all<W: Write>(writer: &mut Watched<W>, bytes: &[u8]) -> Result<(), 
     requires { writer.old.failed ≡ false }
     ensures ok { OnOk result (Appends (W.contents writer.old.inner) (W.contents writer.new.inner) bytes.now) }
     ensures unharmed { OnOk result (writer.new.failed ≡ false) }
+    ensures calls { writer.new.calls ≤ writer.old.calls + length bytes.now }
     ensures err { IfErr result (λ e. (n : ℕ) × (e ≡ RunError.WriteFault n) × (n ≤ length bytes.now)
         × Appends (W.contents writer.old.inner) (W.contents writer.new.inner) (take n bytes.now)
         × IsTrue writer.new.failed) }

@@ -12,6 +12,7 @@ loop-preserved g c =
       written = written_more _ _ _ bytes sent c.in-Ok.n c.loop.invariant.written c.in-Ok.ensures.bytes;
       rounds = omega arith;
       within = omega (arith, bound, length-take (length bytes - sent) (drop sent bytes), length-drop sent bytes);
+      calls = omega (arith, c.loop.invariant.calls, c.in-Ok.ensures.calls);
       whole = not_true _ (λ h. elim (c.in-Ok.ensures.failed.0 h) [ inl a ↦ cc (c.loop.invariant.whole, a) | inr (inl b) ↦ cc b | inr (inr d) ↦ some (cc d) ]);
     }
 
