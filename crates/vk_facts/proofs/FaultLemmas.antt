@@ -1,5 +1,5 @@
 -- The point that a trace is refused at.
-use Rattle.std.proofs.Common.{◌≡◌, [], ◌∷◌, List, Some, None, IsTrue, refl, ap, sym, ◌∙◌, subst}
+use Rattle.std.proofs.Common.{◌≡◌, ◌∷◌, List, Some, None, IsTrue, refl, ap, sym, ◌∙◌, subst}
 use Rattle.std.specs.Prelude.{Option, MatchOption, length}
 use Rattle.vk_model.specs.declared.entry.Entry.{Entry}
 use Rattle.vk_model.specs.declared.rule.At.{At}

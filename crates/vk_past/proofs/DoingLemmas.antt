@@ -3,7 +3,7 @@ use Rattle.std.proofs.Common.{◌≡◌, ℕ, [], ◌∷◌, Bool, true, false, 
 use Rattle.std.specs.List.{find, list_any, cons_option}
 use Rattle.vk_model.specs.declared.entry.Entry.{Entry}
 use Rattle.vk_model.specs.Basics.{holds, among}
-use Rattle.vk_model.specs.Trace.Point.{Past, Point, host_of, entries}
+use Rattle.vk_model.specs.Trace.Point.{Past, host_of, entries}
 use Rattle.vk_model.specs.Trace.Objects.{ended, ended_by}
 use Rattle.vk_past.specs.declared.doings.Doing.TheVariants.{Ends}
 use Rattle.vk_past.specs.Doings.{does}

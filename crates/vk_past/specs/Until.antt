@@ -1,5 +1,5 @@
 -- The points up to and with one.
-use Rattle.std.specs.Prelude.{◌≡◌, ◌∷◌, Option, Some, None}
+use Rattle.std.specs.Prelude.{◌≡◌, ◌∷◌}
 use Rattle.vk_model.specs.declared.rule.At.{At}
 use Rattle.vk_model.specs.Trace.Point.{Past, Point, at_of}
 use Rattle.vk_model.specs.Rules.Fault.{Comes}

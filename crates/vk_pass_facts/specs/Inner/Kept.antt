@@ -7,7 +7,6 @@ use Rattle.vk_model.specs.Trace.Point.{Past, Point, entries, host_of}
 use Rattle.vk_model.specs.Trace.Objects as objects
 use Rattle.vk_model.specs.Trace.Objects.{made_by, defrag_in}
 use Rattle.vk_model.specs.Rules.Passes.{pool_of_defrag}
-use Rattle.vk_past.specs.declared.creators.Creators.{Creators}
 use Rattle.vk_past.specs.Creators.{AreCreators}
 use Rattle.vk_pass_facts.specs.declared.ended.Ended.{Ended}
 use Rattle.vk_pass_facts.specs.declared.objects.Objects.{Objects}

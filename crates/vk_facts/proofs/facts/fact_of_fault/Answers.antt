@@ -1,4 +1,3 @@
-use Rattle.std.proofs.Common.{refl}
 use Rattle.vk_facts.proofs.FaultLemmas.{none_reported, some_reported}
 use Rattle.vk_facts.proofs.facts.fact_of_fault.Goals as goal
 

@@ -1,4 +1,4 @@
-use Rattle.std.proofs.Common.{◌≡◌, ◌∙◌, ap, refl, Bool, Option, Some, None, is_some, sym}
+use Rattle.std.proofs.Common.{◌≡◌, ◌∙◌, ap, refl, Option, Some, None, is_some}
 use Rattle.std.specs.Option.{option_map}
 use Rattle.vk_order.specs.declared.point.Point.{Point}
 use Rattle.vk_order.specs.PointViews.{point_of}

@@ -1,4 +1,4 @@
-use Rattle.std.proofs.Common.{◌≡◌, List, ◌+◌, take, length, refl, sym, subst, ap, ◌∙◌, false, true, rules, arith, ℕ}
+use Rattle.std.proofs.Common.{◌≡◌, List, take, length, sym, subst, ap, ◌∙◌, arith, ℕ}
 use Rattle.std.proofs.Math.Seq.{take-length}
 use Rattle.vk_model.specs.Trace.Point.{Past, at_of}
 use Rattle.vk_order.specs.declared.point.Point.{Point}
