@@ -12,13 +12,13 @@ use Rattle.vk_ranges.proofs.TilingLemmas.{after_here, after_later}
 use Rattle.vk_ranges.proofs.RisingLemmas.{IsLocal, local_both, rising_le, rising_from, rising_append, rising_below}
 
 module _ {T : Type 0} where
-  pub chunks_rising : (low : ℕ) (chunks : List (Chunk T)) → AreChunks low chunks → AreRising low (2 ^ 64) (joined chunks)
+  pub chunks_rising : (low : ℕ) (chunks : List (Chunk T)) → AreChunks low chunks → AreRising low (2 ^ 32) (joined chunks)
   chunks_rising low [] c = omega arith
-  chunks_rising low (chunk ∷ chunks) c = rising_append low (chunk.last + 1) (2 ^ 64) chunk.runs.items (joined chunks) c.0 (chunks_rising (chunk.last + 1) chunks c.1)
+  chunks_rising low (chunk ∷ chunks) c = rising_append low (chunk.last + 1) (2 ^ 32) chunk.runs.items (joined chunks) c.0 (chunks_rising (chunk.last + 1) chunks c.1)
 
   -- ---- where an end is
 
-  pub chunks_some : (low : ℕ) (chunks : List (Chunk T)) → AreChunks low chunks → low < 2 ^ 64 → 0 < length chunks
+  pub chunks_some : (low : ℕ) (chunks : List (Chunk T)) → AreChunks low chunks → low < 2 ^ 32 → 0 < length chunks
   chunks_some low [] c lt = absurd (omega arith)
   chunks_some low (chunk ∷ chunks) c lt = omega arith
 
@@ -29,7 +29,7 @@ module _ {T : Type 0} where
   chunk_is end (suc at) (chunk ∷ chunks) lt before here = (before zero chunk (omega arith), chunk_is end at chunks (omega arith) (λ k d less. before (suc k) d (omega arith)) here)
 
   -- the last one takes all up to the greatest index
-  pub chunk_within : (low end at : ℕ) (chunks : List (Chunk T)) → AreChunks low chunks → low < 2 ^ 64 → end < 2 ^ 64 → at ≤ length chunks → ((k : ℕ) (d : Chunk T) → k < at → (get_or chunks k d).last < end) → at < length chunks
+  pub chunk_within : (low end at : ℕ) (chunks : List (Chunk T)) → AreChunks low chunks → low < 2 ^ 32 → end < 2 ^ 32 → at ≤ length chunks → ((k : ℕ) (d : Chunk T) → k < at → (get_or chunks k d).last < end) → at < length chunks
   chunk_within low end at [] c some lt le before = absurd (omega arith)
   chunk_within low end zero (chunk ∷ chunks) c some lt le before = omega arith
   chunk_within low end (suc at) (chunk ∷ []) c some lt le before = let last = c.1 in let less = before zero chunk (omega arith) in absurd (omega arith)
@@ -99,7 +99,7 @@ module _ {T : Type 0} where
   after_is low index at [] chunk c is found = absurd is
   after_is low index zero (x ∷ chunks) chunk c is found =
       ap (λ (y : Chunk T). after index y.runs.items ++ joined chunks) found
-      ∙ sym (after_back index (2 ^ 64) x.runs.items (joined chunks) (rising_from (x.last + 1) (index + 1) (2 ^ 64) (joined chunks) (omega arith) (chunks_rising (x.last + 1) chunks c.1)))
+      ∙ sym (after_back index (2 ^ 32) x.runs.items (joined chunks) (rising_from (x.last + 1) (index + 1) (2 ^ 32) (joined chunks) (omega arith) (chunks_rising (x.last + 1) chunks c.1)))
   after_is low index (suc at) (x ∷ chunks) chunk c is found =
       let below = is.0 in
       let next : drop (suc at + 1) (x ∷ chunks) ≡ drop (at + 1) chunks = let e : suc at + 1 ≡ suc (at + 1) = omega arith in ap (λ n. drop n (x ∷ chunks)) e in
@@ -115,7 +115,7 @@ module _ {T : Type 0} where
     changed_joined low at [] old new c is ends found made = absurd is
     changed_joined low zero (chunk ∷ chunks) old new c is ends found made =
         ap (λ (xs : List (ℕ × T)). xs ++ joined chunks) (made ∙ ap (λ (x : Chunk T). change x.runs.items) found)
-        ∙ sym (local.back (2 ^ 64) chunk.runs.items (joined chunks) (rising_from (chunk.last + 1) (last + 1) (2 ^ 64) (joined chunks) (omega arith) (chunks_rising (chunk.last + 1) chunks c.1)))
+        ∙ sym (local.back (2 ^ 32) chunk.runs.items (joined chunks) (rising_from (chunk.last + 1) (last + 1) (2 ^ 32) (joined chunks) (omega arith) (chunks_rising (chunk.last + 1) chunks c.1)))
     changed_joined low (suc at) (chunk ∷ chunks) old new c is ends found made =
         let below = is.0 in
         ap (λ (xs : List (ℕ × T)). chunk.runs.items ++ xs) (changed_joined (chunk.last + 1) at chunks old new c.1 is.1 ends.1 found made)

@@ -1,5 +1,5 @@
 -- Runs whose ends rise, and what a change of one end does to them.
-use Rattle.std.proofs.Common.{◌≡◌, ◌≢◌, ◌<◌, ◌≤◌, ◌+◌, ℕ, zero, suc, List, [], ◌∷◌, ◌++◌, length, drop, set, get_or, refl, sym, ap, ◌∙◌, inl, inr, arith}
+use Rattle.std.proofs.Common.{◌≡◌, ◌≢◌, ◌<◌, ◌≤◌, ◌+◌, ◌-◌, ℕ, zero, suc, List, [], ◌∷◌, ◌++◌, length, drop, set, get_or, refl, sym, ap, ◌∙◌, inl, inr, arith}
 use Rattle.std.specs.Ordering.{nat_cmp}
 use Rattle.std.specs.Map.{remove_entry, set_value}
 use Rattle.std.specs.BTreeMap.{insert_entry, is_at}
@@ -164,6 +164,30 @@ module _ {T : Type 0} where
   place_is end (run ∷ runs) (suc place) le before rest =
       (before zero run (omega arith), place_is end runs place (omega arith) (λ k d lt. before (suc k) d (omega arith)) (λ k d from to. rest (suc k) d (omega arith) (omega arith)))
 
+  -- two reads of one place, by what stands there where there is nothing
+  read_same : (place : ℕ) (runs : List (ℕ × T)) (x d : ℕ × T) → place < length runs → (get_or runs place x).0 ≡ (get_or runs place d).0
+  read_same place runs x d lt = ap (λ (run : ℕ × T). run.0) (get_or_default runs place x d lt)
+
+  pub reads_from : (end place : ℕ) (runs : List (ℕ × T)) (x : ℕ × T) → end ≤ (get_or runs place x).0 → (d : ℕ × T) → place < length runs → end ≤ (get_or runs place d).0
+  reads_from end place runs x from d lt = let same = read_same place runs x d lt in omega arith
+
+  pub reads_above : (index place : ℕ) (runs : List (ℕ × T)) (x : ℕ × T) → index < (get_or runs place x).0 → (d : ℕ × T) → place < length runs → index < (get_or runs place d).0
+  reads_above index place runs x above d lt = let same = read_same place runs x d lt in omega arith
+
+  pub reads_below : (end place : ℕ) (runs : List (ℕ × T)) (x : ℕ × T) → (get_or runs place x).0 < end → (d : ℕ × T) → place < length runs → (get_or runs place d).0 < end
+  reads_below end place runs x below d lt = let same = read_same place runs x d lt in omega arith
+
+  pub reads_up_to : (index place : ℕ) (runs : List (ℕ × T)) (x : ℕ × T) → (get_or runs place x).0 ≤ index → (d : ℕ × T) → place < length runs → (get_or runs place d).0 ≤ index
+  reads_up_to index place runs x to d lt = let same = read_same place runs x d lt in omega arith
+
+  -- the runs before a place end below the index where the last of them does, and the others don't where the first of them doesn't
+  pub place_here : (low high end place : ℕ) (runs : List (ℕ × T)) → AreRising low high runs → place ≤ length runs → ((d : ℕ × T) → 0 < place → (get_or runs (place - 1) d).0 < end)
+      → ((d : ℕ × T) → place < length runs → end ≤ (get_or runs place d).0) → IsPlaceOf end place runs
+  place_here low high end place runs r le before rest =
+      place_is end runs place le
+      (λ k d lt. let up = rising_sorted low high runs r k (place - 1) d (omega arith) (omega arith) in let below = before d (omega arith) in omega arith)
+      (λ k d from to. let up = rising_sorted low high runs r place k d from to in let above = rest d (omega arith) in omega arith)
+
   pub rest_is : (index : ℕ) (runs : List (ℕ × T)) (place : ℕ) → place ≤ length runs → ((k : ℕ) (d : ℕ × T) → k < place → (get_or runs k d).0 ≤ index)
       → ((k : ℕ) (d : ℕ × T) → place ≤ k → k < length runs → index < (get_or runs k d).0) → drop place runs ≡ after index runs
   rest_is index [] zero le before rest = refl
@@ -172,6 +196,14 @@ module _ {T : Type 0} where
   rest_is index (run ∷ runs) (suc place) le before rest =
       rest_is index runs place (omega arith) (λ k d lt. before (suc k) d (omega arith)) (λ k d from to. rest (suc k) d (omega arith) (omega arith))
       ∙ sym (after_later index run runs (before zero run (omega arith)))
+
+  -- the same where the last of the runs before a place ends up to the index, and the first of the others after it
+  pub rest_from : (low high index place : ℕ) (runs : List (ℕ × T)) → AreRising low high runs → place ≤ length runs → ((d : ℕ × T) → 0 < place → (get_or runs (place - 1) d).0 ≤ index)
+      → ((d : ℕ × T) → place < length runs → index < (get_or runs place d).0) → drop place runs ≡ after index runs
+  rest_from low high index place runs r le before rest =
+      rest_is index runs place le
+      (λ k d lt. let up = rising_sorted low high runs r k (place - 1) d (omega arith) (omega arith) in let below = before d (omega arith) in omega arith)
+      (λ k d from to. let up = rising_sorted low high runs r place k d from to in let above = rest d (omega arith) in omega arith)
 
   -- No run ends at an index that has this place.
   abbrev pub IsMissing : ℕ → ℕ → List (ℕ × T) → Type 0

@@ -1,3 +1,4 @@
+use crate::changes::Near;
 use crate::chunk::Chunk;
 use std::marker::Model;
 
@@ -5,7 +6,7 @@ use std::marker::Model;
 #[derive(Drop)]
 pub(crate) struct RunsAfter<'a, T> {
     /// Those of the chunk that the next run is in.
-    pub(crate) here: &'a [(u64, T)],
+    pub(crate) here: &'a [(u32, T)],
     /// The chunks after that one.
     pub(crate) later: &'a [Chunk<T>],
 }
@@ -20,23 +21,25 @@ impl<'a, T> Model for RunsAfter<'a, T> {
 }
 
 impl<'a, T> RunsAfter<'a, T> {
-    /// How many chunks come after the one that the next run is in: where to look first for an end
-    /// near it.
-    pub(crate) fn chunks_later(&self) -> usize {
-        self.later.len()
+    /// Where to look first for the end of the run that came last.
+    pub(crate) fn near(&self) -> Near {
+        Near {
+            chunks: self.later.len(),
+            runs: self.here.len(),
+        }
     }
 }
 
 impl<'a, T> Iterator for RunsAfter<'a, T> {
     ghost use Rattle.std.specs.Iterator.{YieldsFirstBy, item_count};
 
-    type Item = (u64, &'a T);
+    type Item = (u32, &'a T);
 
     ghost next_gives = { YieldsFirstBy (λ run. (run.0, run.1.now)) (λ left. left) };
 
     ghost remaining = { item_count (λ left. left) };
 
-    fn next(&mut self) -> Option<(u64, &'a T)> {
+    fn next(&mut self) -> Option<(u32, &'a T)> {
         while self.here.is_empty() {
             let (chunk, later) = self.later.split_first()?;
             self.here = &chunk.runs;

@@ -1,8 +1,17 @@
+/// Where to look first for an end near one that was found. Any numbers are right.
+#[derive(Clone, Copy)]
+pub(crate) struct Near {
+    /// How many chunks come after the one of that end.
+    pub(crate) chunks: usize,
+    /// How many runs of that chunk come after the one that ends there.
+    pub(crate) runs: usize,
+}
+
 /// What becomes of the run that ends at an index: its new value, or `None` where it becomes a part
 /// of the run after it.
 #[derive(Drop)]
 pub(crate) struct Change<T> {
-    pub(crate) end: u64,
+    pub(crate) end: u32,
     pub(crate) value: Option<T>,
 }
 
@@ -22,8 +31,8 @@ pub(crate) enum Edge<T> {
 /// What becomes of the runs of a range: at its two edges, and of the ends between them.
 #[derive(Drop)]
 pub(crate) struct Plan<T> {
-    /// How many chunks of runs come after the one that the range begins in.
-    pub(crate) later: usize,
+    /// The end of the run that the range begins in.
+    pub(crate) near: Near,
     pub(crate) at_low: Edge<T>,
     pub(crate) changes: Vec<Change<T>>,
     pub(crate) at_high: Edge<T>,

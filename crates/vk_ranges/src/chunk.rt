@@ -11,16 +11,43 @@ use std::alloc::AllocError;
 #[derive(Drop)]
 pub(crate) struct Chunk<T> {
     /// The greatest index at which a run of this chunk may end.
-    pub(crate) last: u64,
+    pub(crate) last: u32,
     /// The runs in order, each with the index after its last one.
-    pub(crate) runs: Vec<(u64, T)>,
+    pub(crate) runs: Vec<(u32, T)>,
 }
 
 /// The number of runs at which a chunk takes no more.
 const FULL: usize = 64;
 
+/// How many of the runs end before an index, found at once where that is all but the last ones, of
+/// which there is one more than `later`.
+#[inline(always)]
+fn place_near<T>(runs: &[(u32, T)], later: usize, index: u32) -> usize
+    requires { AreSorted runs.now }
+    ensures { IsPlaceOf index result runs.now }
+{
+    let place = runs.len().saturating_sub(later).saturating_sub(1);
+    if is_place(runs, place, index) {
+        return place;
+    }
+    count_before(runs, index)
+}
+
+/// Whether so many of the runs end before an index.
+#[inline(always)]
+fn is_place<T>(runs: &[(u32, T)], place: usize, index: u32) -> bool
+    requires sorted { AreSorted runs.now }
+    requires within { place ≤ length runs.now }
+    ensures { IsTrue result → IsPlaceOf index place runs.now }
+{
+    if place < runs.len() && runs[place].0 < index {
+        return false;
+    }
+    place == 0 || runs[place - 1].0 < index
+}
+
 /// How many of the runs end before an index.
-fn count_before<T>(runs: &[(u64, T)], index: u64) -> usize
+fn count_before<T>(runs: &[(u32, T)], index: u32) -> usize
     requires { AreSorted runs.now }
     ensures { IsPlaceOf index result runs.now }
 {
@@ -28,7 +55,8 @@ fn count_before<T>(runs: &[(u64, T)], index: u64) -> usize
 }
 
 /// How many of the runs end before an index or at it.
-fn count_until<T>(runs: &[(u64, T)], index: u64) -> usize
+#[inline(always)]
+fn count_until<T>(runs: &[(u32, T)], index: u32) -> usize
     requires { AreSorted runs.now }
     ensures within { result ≤ length runs.now }
     ensures rest { drop result runs.now ≡ after index runs.now }
@@ -36,13 +64,51 @@ fn count_until<T>(runs: &[(u64, T)], index: u64) -> usize
     runs.partition_point(|run| run.0 <= index)
 }
 
-/// The runs that end after an index.
-pub(crate) fn rest_after<T>(runs: &[(u64, T)], index: u64) -> &[(u64, T)]
-    requires { AreSorted runs.now }
-    ensures { result.now ≡ after index runs.now }
+/// The same, looked for from a place on.
+fn count_until_from<T>(runs: &[(u32, T)], from: usize, index: u32) -> usize
+    requires sorted { AreSorted runs.now }
+    requires within { from ≤ length runs.now }
+    ensures within { result ≤ length runs.now }
+    ensures rest { drop result runs.now ≡ after index runs.now }
 {
-    let count = count_until(runs, index);
-    &runs[count..]
+    let mut place = from;
+    while place < runs.len() && runs[place].0 <= index {
+        place += 1;
+    }
+    while place > 0 && runs[place - 1].0 > index {
+        place -= 1;
+    }
+    place
+}
+
+impl<T> Chunk<T> {
+    /// The runs that end after an index. The ends of the chunk are above `low`.
+    #[inline(always)]
+    pub(crate) fn after(&self, low: u32, index: u32) -> &[(u32, T)]
+        requires { AreSorted self.now.runs.items }
+        ensures { result.now ≡ after index self.now.runs.items }
+    {
+        let count = if self.last == u32::MAX {
+            count_until(&self.runs, index)
+        } else {
+            let from = self.guess(low, index);
+            count_until_from(&self.runs, from, index)
+        };
+        &self.runs[count..]
+    }
+
+    /// About how many of the runs end before an index, where the ends lie evenly above `low`. Any
+    /// number is right: a walk finds the place from there, and the runs are few.
+    #[inline(always)]
+    fn guess(&self, low: u32, index: u32) -> usize
+        ensures { result ≤ length self.now.runs.items }
+    {
+        let before = u64::from(index.saturating_sub(low));
+        let all = u64::from(self.last.saturating_sub(low)).max(1);
+        let runs = self.runs.len();
+        let place = before.saturating_mul(runs as u64) / all;
+        runs.min(place as usize)
+    }
 }
 
 impl<T: Drop> Chunk<T> {
@@ -54,13 +120,13 @@ impl<T: Drop> Chunk<T> {
     }
 
     /// Gives the run that ends at an index the value, which is a new run where none ends there.
-    pub(crate) fn insert(&mut self, end: u64, value: T) -> Result<(), AllocError>
+    pub(crate) fn insert(&mut self, later: usize, end: u32, value: T) -> Result<(), AllocError>
         requires { AreSorted self.old.runs.items }
         ensures last { self.new.last ≡ self.old.last }
         ensures ok { OnOk result (self.new.runs.items ≡ insert_entry nat_cmp self.old.runs.items end value) }
         ensures err { OnErr result (self.new.runs.items ≡ self.old.runs.items) }
     {
-        let place = count_before(&self.runs, end);
+        let place = place_near(&self.runs, later, end);
         if place < self.runs.len() && self.runs[place].0 == end {
             self.runs[place].1 = value;
             return Ok(());
@@ -71,7 +137,8 @@ impl<T: Drop> Chunk<T> {
 
     /// How many of the runs end before `low`, where both ends are of this chunk, it takes two more
     /// runs, and none of its own ends from `low` to `high`.
-    pub(crate) fn gap(&self, low: u64, high: u64) -> Option<usize>
+    #[inline(always)]
+    pub(crate) fn gap(&self, later: usize, low: u32, high: u32) -> Option<usize>
         requires { AreSorted self.now.runs.items }
         ensures rising { IfSome result (λ place. low < high) }
         ensures within { IfSome result (λ place. high ≤ self.now.last) }
@@ -80,7 +147,7 @@ impl<T: Drop> Chunk<T> {
         if low >= high || high > self.last || self.runs.len() + 1 >= FULL {
             return None;
         }
-        let place = count_before(&self.runs, low);
+        let place = place_near(&self.runs, later, low);
         if place < self.runs.len() && self.runs[place].0 <= high {
             return None;
         }
@@ -88,11 +155,12 @@ impl<T: Drop> Chunk<T> {
     }
 
     /// Puts two new runs in their place, which no run lies in. An error leaves the runs as they were.
+    #[inline(always)]
     pub(crate) fn insert_both(
         &mut self,
         place: usize,
-        low: (u64, T),
-        high: (u64, T),
+        low: (u32, T),
+        high: (u32, T),
     ) -> Result<(), AllocError>
         requires rising { low.0 < high.0 }
         requires gap { IsGapOf low.0 high.0 place self.old.runs.items }
@@ -108,24 +176,24 @@ impl<T: Drop> Chunk<T> {
     }
 
     /// Takes away the run that ends at an index, if there is one.
-    pub(crate) fn remove(&mut self, end: u64)
+    pub(crate) fn remove(&mut self, later: usize, end: u32)
         requires { AreSorted self.old.runs.items }
         ensures last { self.new.last ≡ self.old.last }
         ensures runs { self.new.runs.items ≡ remove_entry (is_at (nat_cmp end)) self.old.runs.items }
     {
-        let place = count_before(&self.runs, end);
+        let place = place_near(&self.runs, later, end);
         if place < self.runs.len() && self.runs[place].0 == end {
             self.runs.remove(place);
         }
     }
 
     /// Gives the run that ends at an index another value, if there is one.
-    pub(crate) fn set(&mut self, end: u64, value: T)
+    pub(crate) fn set(&mut self, later: usize, end: u32, value: T)
         requires { AreSorted self.old.runs.items }
         ensures last { self.new.last ≡ self.old.last }
         ensures runs { self.new.runs.items ≡ set_value (is_at (nat_cmp end)) self.old.runs.items value }
     {
-        let place = count_before(&self.runs, end);
+        let place = place_near(&self.runs, later, end);
         if place < self.runs.len() && self.runs[place].0 == end {
             self.runs[place].1 = value;
         }

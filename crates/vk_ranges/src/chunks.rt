@@ -7,11 +7,13 @@ ghost use Rattle.vk_ranges.specs.declared.chunk.Chunk.{Chunk};
 ghost use Rattle.vk_ranges.specs.Inner.Chunks.{AreChunks, IsChunkOf, joined};
 
 use crate::after::RunsAfter;
-use crate::chunk::{Chunk, rest_after};
+use crate::changes::Near;
+use crate::chunk::Chunk;
 use std::alloc::AllocError;
 
 /// The chunk that a run which ends at an index belongs to.
-fn chunk_of<T>(chunks: &[Chunk<T>], index: u64) -> usize
+#[inline(always)]
+fn chunk_of<T>(chunks: &[Chunk<T>], index: u32) -> usize
     requires { AreChunks 0 chunks.now }
     ensures within { result < length chunks.now }
     ensures first { IsChunkOf index result chunks.now }
@@ -21,7 +23,8 @@ fn chunk_of<T>(chunks: &[Chunk<T>], index: u64) -> usize
 
 /// The chunk that a run which ends at an index belongs to, found at once where that many chunks
 /// come after it.
-fn chunk_at<T>(chunks: &[Chunk<T>], later: usize, index: u64) -> usize
+#[inline(always)]
+fn chunk_at<T>(chunks: &[Chunk<T>], later: usize, index: u32) -> usize
     requires { AreChunks 0 chunks.now }
     ensures within { result < length chunks.now }
     ensures first { IsChunkOf index result chunks.now }
@@ -34,7 +37,8 @@ fn chunk_at<T>(chunks: &[Chunk<T>], later: usize, index: u64) -> usize
 }
 
 /// Whether a run which ends at an index belongs to this chunk.
-fn is_chunk_of<T>(chunks: &[Chunk<T>], at: usize, index: u64) -> bool
+#[inline(always)]
+fn is_chunk_of<T>(chunks: &[Chunk<T>], at: usize, index: u32) -> bool
     requires chunks { AreChunks 0 chunks.now }
     requires within { at < length chunks.now }
     ensures { IsTrue result → IsChunkOf index at chunks.now }
@@ -46,12 +50,14 @@ fn is_chunk_of<T>(chunks: &[Chunk<T>], at: usize, index: u64) -> bool
 }
 
 /// The runs that end after an index.
-pub(crate) fn runs_after<T>(chunks: &[Chunk<T>], index: u64) -> RunsAfter<'_, T>
+#[inline(always)]
+pub(crate) fn runs_after<T>(chunks: &[Chunk<T>], index: u32) -> RunsAfter<'_, T>
     requires { AreChunks 0 chunks.now }
     ensures { result ≡ after index (joined chunks.now) }
 {
     let at = chunk_of(chunks, index);
-    let here = rest_after(&chunks[at].runs, index);
+    let low = if at == 0 { 0 } else { chunks[at - 1].last };
+    let here = chunks[at].after(low, index);
     let later = &chunks[at + 1..];
     RunsAfter { here, later }
 }
@@ -60,8 +66,8 @@ pub(crate) fn runs_after<T>(chunks: &[Chunk<T>], index: u64) -> RunsAfter<'_, T>
 /// error, for want of memory, leaves the runs as they were.
 pub(crate) fn insert_run<T: Drop>(
     chunks: &mut Vec<Chunk<T>>,
-    later: usize,
-    end: u64,
+    near: Near,
+    end: u32,
     value: T,
 ) -> Result<(), AllocError>
     requires { AreChunks 0 chunks.old.items }
@@ -69,8 +75,8 @@ pub(crate) fn insert_run<T: Drop>(
     ensures ok { OnOk result (joined chunks.new.items ≡ insert_entry nat_cmp (joined chunks.old.items) end value) }
     ensures err { OnErr result (joined chunks.new.items ≡ joined chunks.old.items) }
 {
-    let at = room_for(chunks, later, end)?;
-    match chunks[at].insert(end, value) {
+    let at = room_for(chunks, near.chunks, end)?;
+    match chunks[at].insert(near.runs, end, value) {
         Ok(()) => Ok(()),
         Err(error) => Err(error),
     }
@@ -78,11 +84,12 @@ pub(crate) fn insert_run<T: Drop>(
 
 /// Gives two indices the values, as `insert_run` does, where a run that is new at the second one
 /// can be taken back. An error, for want of memory, leaves the runs as they were.
+#[inline(always)]
 pub(crate) fn insert_both<T: Drop>(
     chunks: &mut Vec<Chunk<T>>,
-    later: usize,
-    low: (u64, T),
-    high: (u64, T),
+    near: Near,
+    low: (u32, T),
+    high: (u32, T),
 ) -> Result<(), AllocError>
     requires chunks { AreChunks 0 chunks.old.items }
     requires undone { remove_entry (is_at (nat_cmp high.0)) (insert_entry nat_cmp (joined chunks.old.items) high.0 high.1)
@@ -92,9 +99,9 @@ pub(crate) fn insert_both<T: Drop>(
         ≡ insert_entry nat_cmp (insert_entry nat_cmp (joined chunks.old.items) high.0 high.1) low.0 low.1) }
     ensures err { OnErr result (joined chunks.new.items ≡ joined chunks.old.items) }
 {
-    let at = chunk_at(chunks, later, low.0);
-    let Some(place) = chunks[at].gap(low.0, high.0) else {
-        return insert_each(chunks, later, low, high);
+    let at = chunk_at(chunks, near.chunks, low.0);
+    let Some(place) = chunks[at].gap(near.runs, low.0, high.0) else {
+        return insert_each(chunks, near, low, high);
     };
     match chunks[at].insert_both(place, low, high) {
         Ok(()) => Ok(()),
@@ -105,9 +112,9 @@ pub(crate) fn insert_both<T: Drop>(
 /// Does the work of `insert_both` in two steps.
 fn insert_each<T: Drop>(
     chunks: &mut Vec<Chunk<T>>,
-    later: usize,
-    low: (u64, T),
-    high: (u64, T),
+    near: Near,
+    low: (u32, T),
+    high: (u32, T),
 ) -> Result<(), AllocError>
     requires chunks { AreChunks 0 chunks.old.items }
     requires undone { remove_entry (is_at (nat_cmp high.0)) (insert_entry nat_cmp (joined chunks.old.items) high.0 high.1)
@@ -119,9 +126,9 @@ fn insert_each<T: Drop>(
 {
     let (high, high_value) = high;
     let (low, low_value) = low;
-    insert_run(chunks, later, high, high_value)?;
-    if let Err(error) = insert_run(chunks, later, low, low_value) {
-        remove_run(chunks, later, high);
+    insert_run(chunks, near, high, high_value)?;
+    if let Err(error) = insert_run(chunks, near, low, low_value) {
+        remove_run(chunks, near, high);
         return Err(error);
     }
     Ok(())
@@ -131,7 +138,7 @@ fn insert_each<T: Drop>(
 fn room_for<T: Drop>(
     chunks: &mut Vec<Chunk<T>>,
     later: usize,
-    end: u64,
+    end: u32,
 ) -> Result<usize, AllocError>
     requires { AreChunks 0 chunks.old.items }
     ensures chunks { AreChunks 0 chunks.new.items }
@@ -170,13 +177,13 @@ fn split<T: Drop>(chunks: &mut Vec<Chunk<T>>, at: usize) -> Result<(), AllocErro
 }
 
 /// Takes away the run that ends at an index, if there is one.
-pub(crate) fn remove_run<T: Drop>(chunks: &mut Vec<Chunk<T>>, later: usize, end: u64)
+pub(crate) fn remove_run<T: Drop>(chunks: &mut Vec<Chunk<T>>, near: Near, end: u32)
     requires { AreChunks 0 chunks.old.items }
     ensures chunks { AreChunks 0 chunks.new.items }
     ensures runs { joined chunks.new.items ≡ remove_entry (is_at (nat_cmp end)) (joined chunks.old.items) }
 {
-    let at = chunk_at(chunks, later, end);
-    chunks[at].remove(end);
+    let at = chunk_at(chunks, near.chunks, end);
+    chunks[at].remove(near.runs, end);
     drop_empty(chunks, at);
 }
 
@@ -196,11 +203,11 @@ fn drop_empty<T: Drop>(chunks: &mut Vec<Chunk<T>>, at: usize)
 }
 
 /// Gives the run that ends at an index another value, if there is one.
-pub(crate) fn set_run<T: Drop>(chunks: &mut Vec<Chunk<T>>, later: usize, end: u64, value: T)
+pub(crate) fn set_run<T: Drop>(chunks: &mut Vec<Chunk<T>>, near: Near, end: u32, value: T)
     requires { AreChunks 0 chunks.old.items }
     ensures chunks { AreChunks 0 chunks.new.items }
     ensures runs { joined chunks.new.items ≡ set_value (is_at (nat_cmp end)) (joined chunks.old.items) value }
 {
-    let at = chunk_at(chunks, later, end);
-    chunks[at].set(end, value);
+    let at = chunk_at(chunks, near.chunks, end);
+    chunks[at].set(near.runs, end, value);
 }

@@ -17,7 +17,7 @@ pub(crate) struct Start<'a, T> {
     /// Whether no run goes on from before the range into it.
     pub(crate) is_end: bool,
     /// The end of the run that the first index is in.
-    pub(crate) end: u64,
+    pub(crate) end: u32,
     /// The value of that run.
     pub(crate) value: &'a T,
     /// The runs after that one.
@@ -25,14 +25,16 @@ pub(crate) struct Start<'a, T> {
 }
 
 /// The runs that end after an index.
-pub(crate) fn runs_after<T>(runs: &SortedRuns<T>, index: u64) -> RunsAfter<'_, T>
+#[inline(always)]
+pub(crate) fn runs_after<T>(runs: &SortedRuns<T>, index: u32) -> RunsAfter<'_, T>
     ensures { result ≡ after index runs.now }
 {
     runs.after(index)
 }
 
 /// Where a range that begins at an index begins in the runs.
-pub(crate) fn start_of<T: RangeValue>(runs: &SortedRuns<T>, low: u64) -> Start<'_, T>
+#[inline(always)]
+pub(crate) fn start_of<T: RangeValue>(runs: &SortedRuns<T>, low: u32) -> Start<'_, T>
     requires { (len : ℕ) × IsTiling 0 len runs.now × (low < len) }
     ensures { Begins low runs.now (option_copied result.left) result.is_end (result.end, result.value.now) result.rest }
 {
@@ -72,6 +74,7 @@ pub(crate) fn start_of<T: RangeValue>(runs: &SortedRuns<T>, low: u64) -> Start<'
 }
 
 /// What becomes of the edge between a value, if there is one, and the first one of a range.
+#[inline(always)]
 pub(crate) fn edge_before<T: RangeValue>(
     is_end: bool,
     left: Option<&T>,
@@ -96,6 +99,7 @@ pub(crate) fn edge_before<T: RangeValue>(
 }
 
 /// What becomes of the edge between the last value of a range and one after it, if there is one.
+#[inline(always)]
 pub(crate) fn edge_after<T: RangeValue>(is_end: bool, right: Option<&T>, last: T) -> Edge<T>
     ensures { IsEdgeAfter is_end (option_copied right.entry) last result }
 {

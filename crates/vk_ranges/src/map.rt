@@ -4,6 +4,7 @@ ghost use Rattle.std.specs.Option.{IsSomeAnd};
 ghost use Rattle.std.specs.Fn.{FnReturnsAt};
 ghost use Rattle.vk_ranges.specs.Overlaps.{AreRunsOf, pieces_left};
 
+use crate::changes::Near;
 use crate::edges::runs_after;
 use crate::plan::carry_out;
 use crate::planning::{overlapping, plan_of_each, plan_of_one};
@@ -17,7 +18,7 @@ use std::marker::Model;
 #[derive(Drop)]
 pub struct RangeMap<T> {
     alloc: Global,
-    len: u64,
+    len: u32,
     /// The runs in order, by the index after the last one of each.
     runs: SortedRuns<T>,
 }
@@ -34,15 +35,19 @@ impl<T> Model for RangeMap<T> {
 }
 
 impl<T: RangeValue> RangeMap<T> {
-    /// A map in which each index has the value. The only error is want of memory.
+    /// A map in which each index has the value. The only error is want of memory, or of numbers where
+    /// there are 2^32 indices or more.
     pub fn new(alloc: Global, len: u64, value: T) -> Result<RangeMap<T>, AllocError>
         ensures len { IfOk result (λ map. length map ≡ len) }
         ensures values { IfOk result (λ map. (index : ℕ) → index < len
             → slice_get map index ≡ Some value) }
     {
+        let Ok(len) = u32::try_from(len) else {
+            return Err(AllocError);
+        };
         let mut runs = SortedRuns::new(alloc)?;
         if len > 0 {
-            runs.insert(0, len, value)?;
+            runs.insert(Near { chunks: 0, runs: 0 }, len, value)?;
         }
         Ok(RangeMap { alloc, len, runs })
     }
@@ -51,7 +56,7 @@ impl<T: RangeValue> RangeMap<T> {
     pub fn len(&self) -> u64
         ensures { result ≡ length self.now }
     {
-        self.len
+        u64::from(self.len)
     }
 
     /// The value of an index.
@@ -59,6 +64,7 @@ impl<T: RangeValue> RangeMap<T> {
         requires { index < length self.now }
         ensures { slice_get self.now index ≡ Some result.now }
     {
+        let index = self.narrow(index);
         let Some((_, value)) = runs_after(&self.runs, index).next() else {
             unreachable!()
         };
@@ -71,6 +77,8 @@ impl<T: RangeValue> RangeMap<T> {
         requires within { high ≤ length self.now }
         ensures { AreRunsOf self.now low high (pieces_left result) }
     {
+        let low = self.narrow(low);
+        let high = self.narrow(high);
         overlapping(&self.runs, low, high)
     }
 
@@ -98,6 +106,24 @@ impl<T: RangeValue> RangeMap<T> {
     /// Gives the indices `low..high` the value, and keeps all others. The only error is want of
     /// memory, after which the map is as it was.
     pub fn assign(&mut self, low: u64, high: u64, value: T) -> Result<(), AllocError>
+        requires order { low ≤ high }
+        requires within { high ≤ length self.old }
+        ensures len { length self.new ≡ length self.old }
+        ensures inside { OnOk result ((index : ℕ) → low ≤ index → index < high
+            → slice_get self.new index ≡ Some value) }
+        ensures before { OnOk result ((index : ℕ) → index < low
+            → slice_get self.new index ≡ slice_get self.old index) }
+        ensures after { OnOk result ((index : ℕ) → high ≤ index
+            → slice_get self.new index ≡ slice_get self.old index) }
+        ensures err { OnErr result (self.new ≡ self.old) }
+    {
+        let low = self.narrow(low);
+        let high = self.narrow(high);
+        self.assign_run(low, high, value)
+    }
+
+    /// The same of ends as the runs have them.
+    fn assign_run(&mut self, low: u32, high: u32, value: T) -> Result<(), AllocError>
         requires order { low ≤ high }
         requires within { high ≤ length self.old }
         ensures len { length self.new ≡ length self.old }
@@ -138,10 +164,45 @@ impl<T: RangeValue> RangeMap<T> {
             → slice_get self.new index ≡ slice_get self.old index) }
         ensures err { OnErr result (self.new ≡ self.old) }
     {
+        let low = self.narrow(low);
+        let high = self.narrow(high);
+        self.update_runs(low, high, f)
+    }
+
+    /// The same of ends as the runs have them.
+    fn update_runs<F: Fn(&T) -> Result<T, AllocError>>(
+        &mut self,
+        low: u32,
+        high: u32,
+        f: F,
+    ) -> Result<(), AllocError>
+        requires callable { F.IsAlwaysCallable f }
+        requires order { low ≤ high }
+        requires within { high ≤ length self.old }
+        ensures len { length self.new ≡ length self.old }
+        ensures inside { OnOk result ((index : ℕ) → low ≤ index → index < high
+            → IsSomeAnd (slice_get self.old index) (λ before.
+            IsSomeAnd (slice_get self.new index) (λ after.
+            FnReturnsAt F.Fn f before (Ok after)))) }
+        ensures before { OnOk result ((index : ℕ) → index < low
+            → slice_get self.new index ≡ slice_get self.old index) }
+        ensures after { OnOk result ((index : ℕ) → high ≤ index
+            → slice_get self.new index ≡ slice_get self.old index) }
+        ensures err { OnErr result (self.new ≡ self.old) }
+    {
         if low == high {
             return Ok(());
         }
         let plan = plan_of_each(self.alloc, &self.runs, low, high, f)?;
         carry_out(&mut self.runs, low, high, plan)
+    }
+
+    /// An index, or the end of a range, as the runs have it.
+    #[inline(always)]
+    fn narrow(&self, index: u64) -> u32
+        requires { index ≤ length self.now }
+        ensures { result ≡ index }
+    {
+        index.min(u64::from(self.len)) as u32
     }
 }

@@ -4,16 +4,17 @@ ghost use Rattle.std.specs.BTreeMap.{insert_entry};
 ghost use Rattle.vk_ranges.specs.declared.changes.Edge.TheVariants.{New};
 ghost use Rattle.vk_ranges.specs.Inner.Plans.{applied, edged, both_edged, carried_out, CanBeUndone};
 
-use crate::changes::{Change, Edge, Plan};
+use crate::changes::{Change, Edge, Near, Plan};
 use crate::sorted::SortedRuns;
 use crate::value::RangeValue;
 use std::alloc::AllocError;
 
 /// Carries out a plan for the range `low..high`. An error leaves the runs as they were.
+#[inline(always)]
 pub(crate) fn carry_out<T: RangeValue>(
     runs: &mut SortedRuns<T>,
-    low: u64,
-    high: u64,
+    low: u32,
+    high: u32,
     plan: Plan<T>,
 ) -> Result<(), AllocError>
     requires { CanBeUndone high plan.at_high runs.old }
@@ -21,23 +22,24 @@ pub(crate) fn carry_out<T: RangeValue>(
     ensures err { OnErr result (runs.new ≡ runs.old) }
 {
     let Plan {
-        later,
+        near,
         at_low,
         changes,
         at_high,
     } = plan;
-    change_edges(runs, later, low, at_low, high, at_high)?;
-    apply(runs, later, changes);
+    change_edges(runs, near, low, at_low, high, at_high)?;
+    apply(runs, near, changes);
     Ok(())
 }
 
 /// Changes both edges of a range, new ends first: only they can want memory.
+#[inline(always)]
 fn change_edges<T: RangeValue>(
     runs: &mut SortedRuns<T>,
-    later: usize,
-    low: u64,
+    near: Near,
+    low: u32,
     at_low: Edge<T>,
-    high: u64,
+    high: u32,
     at_high: Edge<T>,
 ) -> Result<(), AllocError>
     requires { CanBeUndone high at_high runs.old }
@@ -45,28 +47,29 @@ fn change_edges<T: RangeValue>(
     ensures err { OnErr result (runs.new ≡ runs.old) }
 {
     match at_high {
-        Edge::Stays => change_edge(runs, later, low, at_low),
+        Edge::Stays => change_edge(runs, near, low, at_low),
         Edge::Goes => {
-            change_edge(runs, later, low, at_low)?;
-            runs.remove(later, high);
+            change_edge(runs, near, low, at_low)?;
+            runs.remove(near, high);
             Ok(())
         }
         Edge::Becomes(value) => {
-            change_edge(runs, later, low, at_low)?;
-            runs.set(later, high, value);
+            change_edge(runs, near, low, at_low)?;
+            runs.set(near, high, value);
             Ok(())
         }
-        Edge::New(value) => insert_and_change(runs, later, low, at_low, high, value),
+        Edge::New(value) => insert_and_change(runs, near, low, at_low, high, value),
     }
 }
 
 /// Makes an index the end of a run, and changes an edge before it.
+#[inline(always)]
 fn insert_and_change<T: RangeValue>(
     runs: &mut SortedRuns<T>,
-    later: usize,
-    low: u64,
+    near: Near,
+    low: u32,
     at_low: Edge<T>,
-    high: u64,
+    high: u32,
     value: T,
 ) -> Result<(), AllocError>
     requires { CanBeUndone high (New value) runs.old }
@@ -74,26 +77,26 @@ fn insert_and_change<T: RangeValue>(
     ensures err { OnErr result (runs.new ≡ runs.old) }
 {
     match at_low {
-        Edge::Stays => runs.insert(later, high, value),
+        Edge::Stays => runs.insert(near, high, value),
         Edge::Goes => {
-            runs.insert(later, high, value)?;
-            runs.remove(later, low);
+            runs.insert(near, high, value)?;
+            runs.remove(near, low);
             Ok(())
         }
         Edge::Becomes(low_value) => {
-            runs.insert(later, high, value)?;
-            runs.set(later, low, low_value);
+            runs.insert(near, high, value)?;
+            runs.set(near, low, low_value);
             Ok(())
         }
-        Edge::New(low_value) => runs.insert_both(later, (low, low_value), (high, value)),
+        Edge::New(low_value) => runs.insert_both(near, (low, low_value), (high, value)),
     }
 }
 
 /// Changes an edge. An error leaves the runs as they were.
 fn change_edge<T: RangeValue>(
     runs: &mut SortedRuns<T>,
-    later: usize,
-    at: u64,
+    near: Near,
+    at: u32,
     edge: Edge<T>,
 ) -> Result<(), AllocError>
     ensures ok { OnOk result (runs.new ≡ edged at edge runs.old) }
@@ -102,30 +105,30 @@ fn change_edge<T: RangeValue>(
     match edge {
         Edge::Stays => Ok(()),
         Edge::Goes => {
-            runs.remove(later, at);
+            runs.remove(near, at);
             Ok(())
         }
         Edge::Becomes(value) => {
-            runs.set(later, at, value);
+            runs.set(near, at, value);
             Ok(())
         }
         Edge::New(value) => {
-            runs.insert(later, at, value)?;
+            runs.insert(near, at, value)?;
             Ok(())
         }
     }
 }
 
 /// Gives each end that changes speak of its new value, or takes it away.
-fn apply<T: RangeValue>(runs: &mut SortedRuns<T>, later: usize, changes: Vec<Change<T>>)
+fn apply<T: RangeValue>(runs: &mut SortedRuns<T>, near: Near, changes: Vec<Change<T>>)
     ensures { runs.new ≡ applied changes.items runs.old }
 {
     for change in changes {
         let Change { end, value } = change;
         match value {
-            Some(value) => runs.set(later, end, value),
+            Some(value) => runs.set(near, end, value),
             None => {
-                runs.remove(later, end);
+                runs.remove(near, end);
             }
         }
     }

@@ -18,8 +18,8 @@ use std::alloc::{AllocError, Global};
 /// The runs that overlap `low..high`, in order, each cut to it.
 pub(crate) fn overlapping<T: RangeValue>(
     runs: &SortedRuns<T>,
-    low: u64,
-    high: u64,
+    low: u32,
+    high: u32,
 ) -> Overlapping<'_, T>
     ensures left { pieces_left result
         ≡ with_starts low (upto low high (after low runs.now)) }
@@ -34,11 +34,12 @@ pub(crate) fn overlapping<T: RangeValue>(
 }
 
 /// The plan that makes one run of `low..high`.
+#[inline(always)]
 pub(crate) fn plan_of_one<T: RangeValue>(
     alloc: Global,
     runs: &SortedRuns<T>,
-    low: u64,
-    high: u64,
+    low: u32,
+    high: u32,
     value: T,
 ) -> Result<Plan<T>, AllocError>
     requires some { low < high }
@@ -53,11 +54,11 @@ pub(crate) fn plan_of_one<T: RangeValue>(
         value: first,
         rest,
     } = start_of(runs, low);
-    let later = rest.chunks_later();
+    let near = rest.near();
     let at_low = edge_before(is_end, left, &value)?;
     let Tail { changes, at_high } = merged(alloc, end, first, rest, high, value)?;
     Ok(Plan {
-        later,
+        near,
         at_low,
         changes,
         at_high,
@@ -72,12 +73,13 @@ struct Tail<T> {
 }
 
 /// Makes one run of those that overlap a range, from its first one on.
+#[inline(always)]
 fn merged<'a, T: RangeValue>(
     alloc: Global,
-    first_end: u64,
+    first_end: u32,
     first: &'a T,
     rest: RunsAfter<'a, T>,
-    high: u64,
+    high: u32,
     value: T,
 ) -> Result<Tail<T>, AllocError>
     ensures walked { IfOk result (λ tail. (low len : ℕ)
@@ -105,6 +107,7 @@ fn merged<'a, T: RangeValue>(
 }
 
 /// The tail of a range that ends within its first run.
+#[inline(always)]
 fn tail_within<T: RangeValue>(alloc: Global, here: &T, last: T) -> Tail<T>
     ensures none { result.changes.items ≡ [] }
     ensures edge { IsEdgeAfter false (Some here.now) last result.at_high }
@@ -117,10 +120,10 @@ fn tail_within<T: RangeValue>(alloc: Global, here: &T, last: T) -> Tail<T>
 
 /// What becomes of the high edge of a range, which is in the run that ends at `end` or ends it.
 fn last_edge<'a, T: RangeValue>(
-    end: u64,
+    end: u32,
     here: &'a T,
     next: Option<&'a T>,
-    high: u64,
+    high: u32,
     last: T,
 ) -> Edge<T>
     ensures { (rest : List (ℕ × T)) → high ≤ end → option_copied next.entry ≡ first_value rest
@@ -136,8 +139,8 @@ fn last_edge<'a, T: RangeValue>(
 pub(crate) fn plan_of_each<T: RangeValue, F: Fn(&T) -> Result<T, AllocError>>(
     alloc: Global,
     runs: &SortedRuns<T>,
-    low: u64,
-    high: u64,
+    low: u32,
+    high: u32,
     f: F,
 ) -> Result<Plan<T>, AllocError>
     requires callable { F.IsAlwaysCallable f }
@@ -157,12 +160,12 @@ pub(crate) fn plan_of_each<T: RangeValue, F: Fn(&T) -> Result<T, AllocError>>(
         value,
         rest,
     } = start_of(runs, low);
-    let later = rest.chunks_later();
+    let near = rest.near();
     let first = f(value)?;
     let at_low = edge_before(is_end, left, &first)?;
     let Tail { changes, at_high } = mapped(alloc, end, value, rest, high, first, f)?;
     Ok(Plan {
-        later,
+        near,
         at_low,
         changes,
         at_high,
@@ -172,10 +175,10 @@ pub(crate) fn plan_of_each<T: RangeValue, F: Fn(&T) -> Result<T, AllocError>>(
 /// Gives the runs that overlap a range what `f` answers, from its first one on, which has an answer.
 fn mapped<'a, T: RangeValue, F: Fn(&T) -> Result<T, AllocError>>(
     alloc: Global,
-    first_end: u64,
+    first_end: u32,
     first: &'a T,
     rest: RunsAfter<'a, T>,
-    high: u64,
+    high: u32,
     answer: T,
     f: F,
 ) -> Result<Tail<T>, AllocError>
@@ -209,7 +212,7 @@ fn mapped<'a, T: RangeValue, F: Fn(&T) -> Result<T, AllocError>>(
 }
 
 /// What becomes of a run before one with another value.
-fn kept_before<T: RangeValue>(end: u64, value: T, next: &T) -> Change<T>
+fn kept_before<T: RangeValue>(end: u32, value: T, next: &T) -> Change<T>
     ensures end { result.end ≡ end }
     ensures kept { IsKept value next.now result.value }
 {

@@ -16,8 +16,8 @@ pub struct Run<'a, T> {
 #[derive(Drop)]
 pub struct Overlapping<'a, T> {
     pub(crate) runs: RunsAfter<'a, T>,
-    pub(crate) start: u64,
-    pub(crate) end: u64,
+    pub(crate) start: u32,
+    pub(crate) end: u32,
 }
 
 impl<'a, T: RangeValue> Iterator for Overlapping<'a, T> {
@@ -38,8 +38,8 @@ impl<'a, T: RangeValue> Iterator for Overlapping<'a, T> {
         let start = self.start;
         self.start = self.end.min(end);
         Some(Run {
-            start,
-            end: self.start,
+            start: u64::from(start),
+            end: u64::from(self.start),
             value,
         })
     }

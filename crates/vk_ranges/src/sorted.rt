@@ -5,14 +5,14 @@ ghost use Rattle.std.specs.BTreeMap.{is_at, insert_entry};
 ghost use Rattle.vk_ranges.specs.Runs.{after};
 
 use crate::after::RunsAfter;
+use crate::changes::Near;
 use crate::chunk::Chunk;
 use crate::chunks::{insert_both, insert_run, remove_run, runs_after, set_run};
 use std::alloc::{AllocError, Global};
 use std::marker::Model;
 
 /// Runs in the order of their ends, in chunks. Contracts see the list of the runs. A change at an
-/// end is told how many chunks may come `later` than the one of the end: there it is looked for
-/// first, and any number is right.
+/// end is told where to look for it first.
 #[derive(Drop)]
 pub(crate) struct SortedRuns<T> {
     /// Each chunk has the ends after those of the one before it, up to its last one. There is at
@@ -33,7 +33,8 @@ impl<T> Model for SortedRuns<T> {
 
 impl<T> SortedRuns<T> {
     /// The runs that end after an index.
-    pub(crate) fn after(&self, index: u64) -> RunsAfter<'_, T>
+    #[inline(always)]
+    pub(crate) fn after(&self, index: u32) -> RunsAfter<'_, T>
         ensures { result ≡ after index self.now }
     {
         runs_after(&self.chunks, index)
@@ -47,7 +48,7 @@ impl<T: Drop> SortedRuns<T> {
     {
         let mut chunks = Vec::new(alloc);
         chunks.push(Chunk {
-            last: u64::MAX,
+            last: u32::MAX,
             runs: Vec::new(alloc),
         })?;
         Ok(SortedRuns { chunks })
@@ -55,40 +56,41 @@ impl<T: Drop> SortedRuns<T> {
 
     /// Gives the run that ends at an index the value, which is a new run where none ends there. An
     /// error, for want of memory, leaves the runs as they were.
-    pub(crate) fn insert(&mut self, later: usize, end: u64, value: T) -> Result<(), AllocError>
+    pub(crate) fn insert(&mut self, near: Near, end: u32, value: T) -> Result<(), AllocError>
         ensures ok { OnOk result (self.new ≡ insert_entry nat_cmp self.old end value) }
         ensures err { OnErr result (self.new ≡ self.old) }
     {
-        insert_run(&mut self.chunks, later, end, value)
+        insert_run(&mut self.chunks, near, end, value)
     }
 
     /// Gives two indices the values, as `insert` does, where a run that is new at the second one can
     /// be taken back. An error, for want of memory, leaves the runs as they were.
+    #[inline(always)]
     pub(crate) fn insert_both(
         &mut self,
-        later: usize,
-        low: (u64, T),
-        high: (u64, T),
+        near: Near,
+        low: (u32, T),
+        high: (u32, T),
     ) -> Result<(), AllocError>
         requires { remove_entry (is_at (nat_cmp high.0)) (insert_entry nat_cmp self.old high.0 high.1) ≡ self.old }
         ensures ok { OnOk result (self.new
             ≡ insert_entry nat_cmp (insert_entry nat_cmp self.old high.0 high.1) low.0 low.1) }
         ensures err { OnErr result (self.new ≡ self.old) }
     {
-        insert_both(&mut self.chunks, later, low, high)
+        insert_both(&mut self.chunks, near, low, high)
     }
 
     /// Takes away the run that ends at an index, if there is one.
-    pub(crate) fn remove(&mut self, later: usize, end: u64)
+    pub(crate) fn remove(&mut self, near: Near, end: u32)
         ensures { self.new ≡ remove_entry (is_at (nat_cmp end)) self.old }
     {
-        remove_run(&mut self.chunks, later, end);
+        remove_run(&mut self.chunks, near, end);
     }
 
     /// Gives the run that ends at an index another value, if there is one.
-    pub(crate) fn set(&mut self, later: usize, end: u64, value: T)
+    pub(crate) fn set(&mut self, near: Near, end: u32, value: T)
         ensures { self.new ≡ set_value (is_at (nat_cmp end)) self.old value }
     {
-        set_run(&mut self.chunks, later, end, value);
+        set_run(&mut self.chunks, near, end, value);
     }
 }

@@ -51,9 +51,8 @@ fn invalidate_next(
 {
     let (last, end) = next_run(&touches.writes, low, high);
     let seen = by.sees_until(low, end, &last);
-    touches
-        .writes
-        .assign(low, seen.end, last.invalidated(seen.is_seen))?;
+    let kept = last.invalidated(seen.is_seen)?;
+    touches.writes.assign(low, seen.end, kept)?;
     Ok(seen.end)
 }
 

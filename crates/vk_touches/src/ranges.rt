@@ -24,9 +24,10 @@ pub fn touch(
 {
     let part = Part::of(offset, 0, size, touches.len());
     match way {
-        Touch::Write => touches
-            .writes
-            .assign(part.low, part.high, KeptWrite::by(spot)),
+        Touch::Write => {
+            let kept = KeptWrite::by(spot)?;
+            touches.writes.assign(part.low, part.high, kept)
+        }
         Touch::HostWrite => touches
             .others
             .update(part.low, part.high, |others| Ok(others.written(spot))),

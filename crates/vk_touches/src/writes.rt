@@ -1,4 +1,4 @@
-ghost use Rattle.std.specs.Prelude.{◌≡◌, ◌&&◌, is_some, not};
+ghost use Rattle.std.specs.Prelude.{◌≡◌, ◌&&◌, IfOk, is_some, not};
 ghost use Rattle.vk_touches.specs.declared.touches.Touch.TheVariants as touch;
 ghost use Rattle.vk_touches.specs.Remembered as remembered;
 ghost use Rattle.vk_touches.specs.TouchMaps.{with_write_alone, write_of};
@@ -27,35 +27,35 @@ impl LastWrite {
     }
 
     /// To be kept after a host entry has invalidated the byte, which sees the last write or not.
-    pub(crate) fn invalidated(self, is_invalidated: bool) -> KeptWrite
-        ensures { result ≡ write_of (remembered.with_invalidation (with_write_alone self) is_invalidated) }
+    pub(crate) fn invalidated(self, is_invalidated: bool) -> Result<KeptWrite, AllocError>
+        ensures { IfOk result (λ kept. kept ≡ write_of (remembered.with_invalidation (with_write_alone self) is_invalidated)) }
     {
         match self.write {
-            Some(spot) => KeptWrite {
-                is_written: true,
-                is_invalidated,
-                line: spot.line,
-                place: spot.place,
-                number: spot.number,
-            },
-            None => KeptWrite {
+            Some(spot) => {
+                let kept = KeptWrite::by(spot)?;
+                Ok(KeptWrite {
+                    is_invalidated,
+                    ..kept
+                })
+            }
+            None => Ok(KeptWrite {
                 is_invalidated,
                 ..KeptWrite::none()
-            },
+            }),
         }
     }
 }
 
-/// A `LastWrite` in less memory than the `Option` in it takes: there is one for each run of bytes.
-/// Contracts see the `LastWrite`.
+/// A `LastWrite` in less memory than the `Option` in it and its numbers of 64 bits take: there is one
+/// for each run of bytes. Contracts see the `LastWrite`.
 #[derive(Drop)]
 pub(crate) struct KeptWrite {
-    is_written: bool,
-    is_invalidated: bool,
     /// The line of the last command that wrote it, where there is one.
     line: Line,
-    place: usize,
-    number: usize,
+    place: u32,
+    number: u32,
+    is_written: bool,
+    is_invalidated: bool,
 }
 
 impl Model for KeptWrite {
@@ -73,25 +73,28 @@ impl KeptWrite {
         ensures { result ≡ write_of remembered.untouched }
     {
         KeptWrite {
-            is_written: false,
-            is_invalidated: false,
             line: Line::Host,
             place: 0,
             number: 0,
+            is_written: false,
+            is_invalidated: false,
         }
     }
 
-    /// After the command of a spot has written the byte.
-    pub(crate) fn by(spot: Spot) -> KeptWrite
-        ensures { result ≡ write_of (remembered.with_touch remembered.untouched touch.Write spot) }
+    /// After the command of a spot has written the byte. A number past 32 bits is answered as want of
+    /// memory: no memory holds so many nodes.
+    pub(crate) fn by(spot: Spot) -> Result<KeptWrite, AllocError>
+        ensures { IfOk result (λ kept. kept ≡ write_of (remembered.with_touch remembered.untouched touch.Write spot)) }
     {
-        KeptWrite {
+        let place = short(spot.place)?;
+        let number = short(spot.number)?;
+        Ok(KeptWrite {
+            line: spot.line,
+            place,
+            number,
             is_written: true,
             is_invalidated: false,
-            line: spot.line,
-            place: spot.place,
-            number: spot.number,
-        }
+        })
     }
 
     /// What is kept.
@@ -115,20 +118,30 @@ impl KeptWrite {
         }
         Some(Spot {
             line: self.line,
-            place: self.place,
-            number: self.number,
+            place: self.place as usize,
+            number: self.number as usize,
         })
+    }
+}
+
+/// A number in 32 bits.
+fn short(number: usize) -> Result<u32, AllocError>
+    ensures { IfOk result (λ short. short ≡ number) }
+{
+    match u32::try_from(number) {
+        Ok(short) => Ok(short),
+        Err(_) => Err(AllocError),
     }
 }
 
 impl RangeValue for KeptWrite {
     fn duplicate(&self) -> Result<KeptWrite, AllocError> {
         Ok(KeptWrite {
-            is_written: self.is_written,
-            is_invalidated: self.is_invalidated,
             line: self.line,
             place: self.place,
             number: self.number,
+            is_written: self.is_written,
+            is_invalidated: self.is_invalidated,
         })
     }
 

@@ -19,7 +19,7 @@ module _ {T : Type 0} where
 
   -- The ends rise from `low` on. Each chunk has those up to its last one, and the last chunk all up to the greatest index. (profile)
   abbrev pub AreChunks : ℕ → List (Chunk T) → Type 0
-  AreChunks low [] = low ≡ 2 ^ 64
+  AreChunks low [] = low ≡ 2 ^ 32
   AreChunks low (chunk ∷ chunks) = AreRising low (chunk.last + 1) chunk.runs.items × AreChunks (chunk.last + 1) chunks
 
   -- The chunk at this place is the first that an end may be in. (profile)

@@ -10,7 +10,7 @@ returns-clause-within g c =
     let at = c.partition_point.result in
     let parted = IsPartitionedBy-ltb (λ (chunk : Chunk g.row.T.Denot). chunk.last) chunks c.args.index (chunks_sorted 0 chunks c.requires) in
     let point = IsPartitionPoint-from_clause (λ (chunk : Chunk g.row.T.Denot). ltb chunk.last c.args.index) _ _ c.partition_point.ensures.partitioned parted (λ a r q k. search rules) in
-    let bound : c.args.index < 2 ^ 64 = c.ranges.index.fits in
+    let bound : c.args.index < 2 ^ 32 = c.ranges.index.fits in
     chunk_within 0 c.args.index at chunks c.requires (omega arith) bound c.partition_point.ensures.bound (λ k d lt. ltb-true _ _ (point.0 k d (omega arith) lt))
 
 pub returns-clause-first : goal.returns-clause-first

@@ -20,7 +20,7 @@ returns-clause-next c =
     let seen = c.sees_until-seen.ensures.within in
     let run = c.next_run-end.ensures.within in (
       writes_invalidated c.touches.invariant c.touches.view_is c.args.by.now c.assign.new.self c.args.low c.sees_until-seen.result.end c.sees_until-seen.ensures.further c.next_run-end.result.0 c.sees_until-seen.result.is_seen
-          (λ k from to. c.next_run-end.ensures.values k from (omega (arith, seen, to))) c.sees_until-seen.ensures.seen (λ k from to. c.in_ok-assign.ensures.inside k from to ∙ ap (λ (w : LastWrite). Some w) c.invalidated.ensures)
+          (λ k from to. c.next_run-end.ensures.values k from (omega (arith, seen, to))) c.sees_until-seen.ensures.seen (λ k from to. c.in_ok-assign.ensures.inside k from to ∙ ap (λ (w : LastWrite). Some w) c.in_ok-kept.ensures)
           c.in_ok-assign.ensures.before c.in_ok-assign.ensures.after,
       omega (arith, seen, run),
     )

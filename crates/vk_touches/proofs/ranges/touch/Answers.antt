@@ -18,16 +18,16 @@ assign-requires-clause-within c =
     let all = c.len.ensures in
     omega (arith, high, all, writes_len c.touches.invariant c.touches.view_is)
 
-pub returns-in-Write-clause-len : goal.returns-in-Write-clause-len
-returns-in-Write-clause-len c = writes_changed_len c.touches.invariant c.touches.view_is c.assign.new.self c.assign.ensures.len
+pub returns-in_ok-kept-in-Write-clause-len : goal.returns-in_ok-kept-in-Write-clause-len
+returns-in_ok-kept-in-Write-clause-len c = writes_changed_len c.touches.invariant c.touches.view_is c.assign.new.self c.assign.ensures.len
 
-pub returns-in-Write-clause-values : goal.returns-in-Write-clause-values
-returns-in-Write-clause-values c = on_three c.assign.result c.assign.ensures.inside c.assign.ensures.before c.assign.ensures.after (λ inside before after.
+pub returns-in_ok-kept-in-Write-clause-values : goal.returns-in_ok-kept-in-Write-clause-values
+returns-in_ok-kept-in-Write-clause-values c = on_three c.assign.result c.assign.ensures.inside c.assign.ensures.before c.assign.ensures.after (λ inside before after.
     let all : length c.touches.inside.writes ≡ c.len.result = writes_len c.touches.invariant c.touches.view_is ∙ sym c.len.ensures in
     let high = c.of-part.ensures.high in
     subst (λ (v : Touch). (k : ℕ) → slice_get (all_remembered c.assign.new.self c.touches.inside.others c.touches.inside.reads) k ≡ option_map (touching (within c.args.offset c.args.size) v c.args.spot k) (slice_get c.args.touches.now k)) (sym c.in-Write.is)
-    (writes_updated c.touches.invariant c.touches.view_is (λ t. with_touch t touch.Write c.args.spot) (within c.args.offset c.args.size) (λ w. c.by.result) (λ w t. ap (λ (v : LastWrite). with_write v t) c.by.ensures) c.assign.new.self
-    (assigned_within c.by.result c.touches.inside.writes c.assign.new.self c.args.offset c.args.size c.of-part.result.low c.of-part.result.high (rw all high) c.of-part.ensures.low inside before after)))
+    (writes_updated c.touches.invariant c.touches.view_is (λ t. with_touch t touch.Write c.args.spot) (within c.args.offset c.args.size) (λ w. c.in_ok-kept-in-Write.kept) (λ w t. ap (λ (v : LastWrite). with_write v t) c.in_ok-kept-in-Write.ensures) c.assign.new.self
+    (assigned_within c.in_ok-kept-in-Write.kept c.touches.inside.writes c.assign.new.self c.args.offset c.args.size c.of-part.result.low c.of-part.result.high (rw all high) c.of-part.ensures.low inside before after)))
 
 pub update-requires-clause-within : goal.update-requires-clause-within
 update-requires-clause-within c =

@@ -7,16 +7,16 @@ use Rattle.vk_ranges.proofs.chunk.Chunk.set.Goals.{else-place-len-via-then-place
 pub returns-then-index-end-clause-runs : goal.returns-then-index-end-clause-runs
 returns-then-index-end-clause-runs g c =
     let runs = c.args.self.now.runs.items in
-    let place = c.count_before-place.result in
-    let is = subst (λ (xs : List (ℕ × g.row.T.Denot)). IsPlaceOf c.args.end place xs) c.deref.ensures.value c.count_before-place.ensures in
+    let place = c.place_near-place.result in
+    let is = subst (λ (xs : List (ℕ × g.row.T.Denot)). IsPlaceOf c.args.end place xs) c.deref.ensures.value c.place_near-place.ensures in
     let lt : place < length runs = omega arith in
     (let run = c.index_mut.result.now in let same = same_read runs place run c.index.result.now lt c.index_mut.ensures.value c.index.ensures in value_found c.args.end place runs c.args.value run is lt c.index_mut.ensures.value (ap (λ (r : ℕ × g.row.T.Denot). r.0) same ∙ c.if-index-end.true))
 
 pub returns-else-place-len-clause-runs : goal.returns-else-place-len-clause-runs
 returns-else-place-len-clause-runs g c =
     let runs = c.args.self.now.runs.items in
-    let place = c.count_before-place.result in
-    let is = subst (λ (xs : List (ℕ × g.row.T.Denot)). IsPlaceOf c.args.end place xs) c.deref.ensures.value c.count_before-place.ensures in
+    let place = c.place_near-place.result in
+    let is = subst (λ (xs : List (ℕ × g.row.T.Denot)). IsPlaceOf c.args.end place xs) c.deref.ensures.value c.place_near-place.ensures in
     let missing : IsMissing c.args.end place runs = elim c.else-place-len.branch [
       | else-place-len-via-then-place-len+else-index-end w ↦ missing_read c.args.end place runs w.index.result.now w.index.ensures w.if-index-end.false
       | else-place-len-via-else-place-len w ↦ missing_end c.args.end place runs (omega arith)

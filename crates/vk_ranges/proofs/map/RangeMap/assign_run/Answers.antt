@@ -2,8 +2,8 @@ use Rattle.std.proofs.Common.{ℕ, List, [], ◌∷◌, OnOk, refl, sym, subst}
 use Rattle.std.proofs.lemmas.Result.{on_ok_weaker}
 use Rattle.vk_ranges.specs.Inner.Plans.{IsRewritten}
 use Rattle.vk_ranges.proofs.Rewriting.{tiled, fits, are_still_runs, same_length, kept_before, kept_after, one_inside}
-use Rattle.vk_ranges.proofs.map.RangeMap.assign.Goals as goal
-use Rattle.vk_ranges.proofs.map.RangeMap.assign.Goals.{After-carry_out}
+use Rattle.vk_ranges.proofs.map.RangeMap.assign_run.Goals as goal
+use Rattle.vk_ranges.proofs.map.RangeMap.assign_run.Goals.{After-carry_out}
 
 done : (g : _) (c : After-carry_out g) → OnOk c.carry_out.result (IsRewritten c.args.low c.args.high c.self.inside.len c.self.inside.runs c.carry_out.new.runs ((c.args.high, c.args.value) ∷ []))
 done g c =

@@ -3,8 +3,8 @@ use Rattle.std.specs.Fn.{FnReturnsAt}
 use Rattle.std.proofs.lemmas.Result.{on_ok_weaker}
 use Rattle.vk_ranges.specs.Inner.Plans.{IsRewritten}
 use Rattle.vk_ranges.proofs.Rewriting.{tiled, fits, are_still_runs, same_length, kept_before, kept_after, each_inside}
-use Rattle.vk_ranges.proofs.map.RangeMap.update.Goals as goal
-use Rattle.vk_ranges.proofs.map.RangeMap.update.Goals.{After-carry_out}
+use Rattle.vk_ranges.proofs.map.RangeMap.update_runs.Goals as goal
+use Rattle.vk_ranges.proofs.map.RangeMap.update_runs.Goals.{After-carry_out}
 
 done : (g : _) (c : After-carry_out g) → OnOk c.carry_out.result (IsRewritten c.args.low c.args.high c.self.inside.len c.self.inside.runs c.carry_out.new.runs c.in_ok-plan.ensures.0)
 done g c =
