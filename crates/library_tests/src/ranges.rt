@@ -41,14 +41,18 @@ fn worked_map(rt: HostRuntime) -> Result<(), Fail> {
     Ok(())
 }
 
-/// Equal neighbours are one run again, also where the value is a struct.
+/// The most indices that a map has.
+const LONGEST: u64 = 4_294_967_295;
+
+/// Equal neighbours are one run again, also where the value is a struct; and a map of one index more
+/// is refused.
 #[test]
 fn neighbours_merge(rt: HostRuntime) -> Result<(), Fail> {
     let clean = Mark {
         is_dirty: false,
         writer: None,
     };
-    let mut map = RangeMap::new(rt.alloc(), u64::MAX, clean)?;
+    let mut map = RangeMap::new(rt.alloc(), LONGEST, clean)?;
     map.assign(
         4,
         8,
@@ -58,9 +62,10 @@ fn neighbours_merge(rt: HostRuntime) -> Result<(), Fail> {
         },
     )?;
     map.update(0, 8, |_mark| Ok(clean))?;
-    for run in map.overlapping(0, u64::MAX) {
-        assert_eq!(rt; run.end, u64::MAX);
+    for run in map.overlapping(0, LONGEST) {
+        assert_eq!(rt; run.end, LONGEST);
         assert!(rt; !run.value.is_dirty);
     }
+    assert!(rt; RangeMap::new(rt.alloc(), LONGEST + 1, clean).is_err());
     Ok(())
 }
