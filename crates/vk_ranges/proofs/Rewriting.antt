@@ -17,9 +17,9 @@ module _ {T : Type 0} (len : ℕ) (old : List (ℕ × T)) (values : List T) (is 
   fits high within = let e = length_is len old values is view in omega arith
 
   -- whether it could be carried out or not
-  pub are_still_runs : {U E : Type 0} (result : Result U E) (low high : ℕ) (new runs : List (ℕ × T)) → OnOk result (IsRewritten low high len old new runs) → OnErr result (new ≡ old) → AreRuns len new
-  are_still_runs (Ok done) low high new runs ok err = record { tiling = ok.tiling; maximal = ok.maximal }
-  are_still_runs (Err error) low high new runs ok err = subst (λ (xs : List (ℕ × T)). AreRuns len xs) (sym err) is
+  pub are_still_runs : {U E : Type 0} (result : Result U E) (low high : ℕ) (new : List (ℕ × T)) → OnOk result ((runs : List (ℕ × T)) × IsRewritten low high len old new runs) → OnErr result (new ≡ old) → AreRuns len new
+  are_still_runs (Ok done) low high new ok err = record { tiling = ok.1.tiling; maximal = ok.1.maximal }
+  are_still_runs (Err error) low high new ok err = subst (λ (xs : List (ℕ × T)). AreRuns len xs) (sym err) is
 
   pub same_length : (new : List (ℕ × T)) → AreRuns len new → length (values_from 0 new) ≡ length values
   same_length new now = length_of_all len new now.tiling ∙ sym (length_is len old values is view)

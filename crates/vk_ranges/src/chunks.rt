@@ -10,6 +10,7 @@ use crate::after::RunsAfter;
 use crate::changes::Near;
 use crate::chunk::Chunk;
 use std::alloc::AllocError;
+use std::cell::Cell;
 
 /// The chunk that a run which ends at an index belongs to.
 #[inline(always)]
@@ -21,6 +22,19 @@ fn chunk_of<T>(chunks: &[Chunk<T>], index: u32) -> usize
     chunks.partition_point(|chunk| chunk.last < index)
 }
 
+/// The chunk that a run which ends at an index belongs to, found at once where it is at this place.
+#[inline(always)]
+fn chunk_near<T>(chunks: &[Chunk<T>], place: usize, index: u32) -> usize
+    requires { AreChunks 0 chunks.now }
+    ensures within { result < length chunks.now }
+    ensures first { IsChunkOf index result chunks.now }
+{
+    if place < chunks.len() && is_chunk_of(chunks, place, index) {
+        return place;
+    }
+    chunk_of(chunks, index)
+}
+
 /// The chunk that a run which ends at an index belongs to, found at once where that many chunks
 /// come after it.
 #[inline(always)]
@@ -29,11 +43,8 @@ fn chunk_at<T>(chunks: &[Chunk<T>], later: usize, index: u32) -> usize
     ensures within { result < length chunks.now }
     ensures first { IsChunkOf index result chunks.now }
 {
-    let at = chunks.len().saturating_sub(later).saturating_sub(1);
-    if is_chunk_of(chunks, at, index) {
-        return at;
-    }
-    chunk_of(chunks, index)
+    let place = chunks.len().saturating_sub(later).saturating_sub(1);
+    chunk_near(chunks, place, index)
 }
 
 /// Whether a run which ends at an index belongs to this chunk.
@@ -49,13 +60,19 @@ fn is_chunk_of<T>(chunks: &[Chunk<T>], at: usize, index: u32) -> bool
     at == 0 || chunks[at - 1].last < index
 }
 
-/// The runs that end after an index.
+/// The runs that end after an index. Their chunk is looked for first where one was found, and is
+/// then the one that was.
 #[inline(always)]
-pub(crate) fn runs_after<T>(chunks: &[Chunk<T>], index: u32) -> RunsAfter<'_, T>
+pub(crate) fn runs_after<'a, T>(
+    chunks: &'a [Chunk<T>],
+    found: &Cell<usize>,
+    index: u32,
+) -> RunsAfter<'a, T>
     requires { AreChunks 0 chunks.now }
     ensures { result ≡ after index (joined chunks.now) }
 {
-    let at = chunk_of(chunks, index);
+    let at = chunk_near(chunks, found.get(), index);
+    found.set(at);
     let low = if at == 0 { 0 } else { chunks[at - 1].last };
     let here = chunks[at].after(low, index);
     let later = &chunks[at + 1..];

@@ -1,13 +1,15 @@
 //! One value for each index of a range, kept as runs.
 //!
-//! A `RangeMap<T>` has a value for each of the indices `0..len`, as the bytes of a buffer have
-//! what is remembered of them. Neighbours of one value are one run, so a map costs nothing for its
+//! A `RangeMap<T>` has a value for each of the indices `0..len`, as the bytes of a buffer have what
+//! is remembered of them. Neighbours of one value are one run, so a map costs nothing for its
 //! length, and an operation costs the runs that it touches: a search and a walk from there, and one
 //! search for each end of a run that is new, goes, or gets another value. The runs lie in order in
 //! chunks of at most 64, so a new one moves those of its chunk, and the list of the chunks where
-//! that is full. A search halves the list of the chunks, and begins in a chunk where the end would
-//! be if all of them lay evenly; an end near one that was found is looked for there first, and two
-//! new ends within one run take one search, where their chunk has room for both. An end has 32 bits.
+//! that is full. A search looks first in the chunk that the one before it found, and else halves
+//! the list of the chunks; in a chunk it begins where the end would be if all of them lay evenly,
+//! and in the last one it halves. An end near one that was found is looked for there first, and two
+//! new ends within one run take one search, where their chunk has room for both. An end has 32
+//! bits.
 //!
 //! ```text
 //! let mut map = RangeMap::new(alloc, 10, 0)?;     // 0 0 0 0 0 0 0 0 0 0
@@ -31,6 +33,7 @@ mod edges;
 mod map;
 mod plan;
 mod planning;
+mod rewrites;
 mod runs;
 mod sorted;
 mod value;

@@ -6,8 +6,8 @@ ghost use Rattle.vk_ranges.specs.Overlaps.{AreRunsOf, pieces_left};
 
 use crate::changes::Near;
 use crate::edges::runs_after;
-use crate::plan::carry_out;
-use crate::planning::{overlapping, plan_of_each, plan_of_one};
+use crate::planning::overlapping;
+use crate::rewrites::{assign_runs, update_runs};
 use crate::runs::Overlapping;
 use crate::sorted::SortedRuns;
 use crate::value::RangeValue;
@@ -117,29 +117,12 @@ impl<T: RangeValue> RangeMap<T> {
             → slice_get self.new index ≡ slice_get self.old index) }
         ensures err { OnErr result (self.new ≡ self.old) }
     {
-        let low = self.narrow(low);
-        let high = self.narrow(high);
-        self.assign_run(low, high, value)
-    }
-
-    /// The same of ends as the runs have them.
-    fn assign_run(&mut self, low: u32, high: u32, value: T) -> Result<(), AllocError>
-        requires order { low ≤ high }
-        requires within { high ≤ length self.old }
-        ensures len { length self.new ≡ length self.old }
-        ensures inside { OnOk result ((index : ℕ) → low ≤ index → index < high
-            → slice_get self.new index ≡ Some value) }
-        ensures before { OnOk result ((index : ℕ) → index < low
-            → slice_get self.new index ≡ slice_get self.old index) }
-        ensures after { OnOk result ((index : ℕ) → high ≤ index
-            → slice_get self.new index ≡ slice_get self.old index) }
-        ensures err { OnErr result (self.new ≡ self.old) }
-    {
         if low == high {
             return Ok(());
         }
-        let plan = plan_of_one(self.alloc, &self.runs, low, high, value)?;
-        carry_out(&mut self.runs, low, high, plan)
+        let low = self.narrow(low);
+        let high = self.narrow(high);
+        assign_runs(self.alloc, &mut self.runs, low, high, value)
     }
 
     /// Gives each index of `low..high` what `f` answers for its value, and keeps all others. An
@@ -164,37 +147,12 @@ impl<T: RangeValue> RangeMap<T> {
             → slice_get self.new index ≡ slice_get self.old index) }
         ensures err { OnErr result (self.new ≡ self.old) }
     {
-        let low = self.narrow(low);
-        let high = self.narrow(high);
-        self.update_runs(low, high, f)
-    }
-
-    /// The same of ends as the runs have them.
-    fn update_runs<F: Fn(&T) -> Result<T, AllocError>>(
-        &mut self,
-        low: u32,
-        high: u32,
-        f: F,
-    ) -> Result<(), AllocError>
-        requires callable { F.IsAlwaysCallable f }
-        requires order { low ≤ high }
-        requires within { high ≤ length self.old }
-        ensures len { length self.new ≡ length self.old }
-        ensures inside { OnOk result ((index : ℕ) → low ≤ index → index < high
-            → IsSomeAnd (slice_get self.old index) (λ before.
-            IsSomeAnd (slice_get self.new index) (λ after.
-            FnReturnsAt F.Fn f before (Ok after)))) }
-        ensures before { OnOk result ((index : ℕ) → index < low
-            → slice_get self.new index ≡ slice_get self.old index) }
-        ensures after { OnOk result ((index : ℕ) → high ≤ index
-            → slice_get self.new index ≡ slice_get self.old index) }
-        ensures err { OnErr result (self.new ≡ self.old) }
-    {
         if low == high {
             return Ok(());
         }
-        let plan = plan_of_each(self.alloc, &self.runs, low, high, f)?;
-        carry_out(&mut self.runs, low, high, plan)
+        let low = self.narrow(low);
+        let high = self.narrow(high);
+        update_runs(self.alloc, &mut self.runs, low, high, f)
     }
 
     /// An index, or the end of a range, as the runs have it.

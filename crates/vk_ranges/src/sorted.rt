@@ -9,6 +9,7 @@ use crate::changes::Near;
 use crate::chunk::Chunk;
 use crate::chunks::{insert_both, insert_run, remove_run, runs_after, set_run};
 use std::alloc::{AllocError, Global};
+use std::cell::Cell;
 use std::marker::Model;
 
 /// Runs in the order of their ends, in chunks. Contracts see the list of the runs. A change at an
@@ -18,6 +19,9 @@ pub(crate) struct SortedRuns<T> {
     /// Each chunk has the ends after those of the one before it, up to its last one. There is at
     /// least one, and the last one takes all up to the greatest index: no other is empty.
     chunks: Vec<Chunk<T>>,
+    /// The chunk that the last search found. The next one often begins there: a range is looked at
+    /// before it is changed.
+    found: Cell<usize>,
 }
 
 impl<T> Model for SortedRuns<T> {
@@ -37,7 +41,7 @@ impl<T> SortedRuns<T> {
     pub(crate) fn after(&self, index: u32) -> RunsAfter<'_, T>
         ensures { result ≡ after index self.now }
     {
-        runs_after(&self.chunks, index)
+        runs_after(&self.chunks, &self.found, index)
     }
 }
 
@@ -51,7 +55,10 @@ impl<T: Drop> SortedRuns<T> {
             last: u32::MAX,
             runs: Vec::new(alloc),
         })?;
-        Ok(SortedRuns { chunks })
+        Ok(SortedRuns {
+            chunks,
+            found: Cell::new(0),
+        })
     }
 
     /// Gives the run that ends at an index the value, which is a new run where none ends there. An

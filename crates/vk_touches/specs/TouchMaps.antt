@@ -1,7 +1,7 @@
 -- What is kept of what bytes remember: the last write by a command, the last reads, and all else.
 use Rattle.std.specs.Prelude.{◌≡◌, ℕ, Bool, List, length, Option, None, Some, false, if◌then◌else◌}
 use Rattle.std.specs.Simd.Lanes.{zip2}
-use Rattle.vk_order.specs.declared.lines.Line.{Line}
+use Rattle.vk_order.specs.declared.lines.Line.TheVariants.{Commands}
 use Rattle.vk_touches.specs.declared.touches.LastTouches.{LastTouches}
 use Rattle.vk_touches.specs.declared.touches.Spot.{Spot}
 use Rattle.vk_touches.specs.declared.others.OtherTouches.{OtherTouches}
@@ -50,6 +50,6 @@ pub record HaveOneLength (ws : List LastWrite) (ts : List OtherTouches) (rs : Li
   pub writes : length ws ≡ length ts
   pub reads : length ts ≡ length rs
 
--- The last command that wrote a byte, where there is one, by its parts. (profile)
-abbrev pub kept_spot : Bool → Line → ℕ → ℕ → Option Spot
-kept_spot is_written line place number = if is_written then Some (record { line = line; place = place; number = number }) else None
+-- The last command that wrote a byte, where there is one, by its queue, place and number. (profile)
+abbrev pub kept_spot : Bool → ℕ → ℕ → ℕ → Option Spot
+kept_spot is_written queue place number = if is_written then Some (record { line = Commands queue; place = place; number = number }) else None

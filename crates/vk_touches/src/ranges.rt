@@ -11,7 +11,8 @@ use crate::writes::KeptWrite;
 use std::alloc::AllocError;
 use vk_model::{BufferCopy, Length};
 
-/// Remembers that the node of a spot has touched the bytes of a range.
+/// Remembers that the node of a spot has touched the bytes of a range. The only error is want of
+/// memory; so answered is also a write by a node that isn't a command of one of the first 256 queues.
 pub fn touch(
     touches: &mut TouchMap,
     offset: u64,

@@ -1,4 +1,5 @@
 ghost use Rattle.std.specs.Prelude.{◌≡◌, ◌&&◌, IfOk, is_some, not};
+ghost use Rattle.vk_order.specs.declared.lines.Line.TheVariants.{Commands as OfCommands};
 ghost use Rattle.vk_touches.specs.declared.touches.Touch.TheVariants as touch;
 ghost use Rattle.vk_touches.specs.Remembered as remembered;
 ghost use Rattle.vk_touches.specs.TouchMaps.{with_write_alone, write_of};
@@ -50,10 +51,10 @@ impl LastWrite {
 /// for each run of bytes. Contracts see the `LastWrite`.
 #[derive(Drop)]
 pub(crate) struct KeptWrite {
-    /// The line of the last command that wrote it, where there is one.
-    line: Line,
     place: u32,
     number: u32,
+    /// The queue of the last command that wrote it, where there is one.
+    queue: u8,
     is_written: bool,
     is_invalidated: bool,
 }
@@ -64,7 +65,7 @@ impl Model for KeptWrite {
 
     ghost Value = { AnyWrite };
 
-    ghost view = { λ m. record { write = kept_spot m.is_written m.line m.place m.number; is_invalidated = m.is_invalidated } };
+    ghost view = { λ m. record { write = kept_spot m.is_written m.queue m.place m.number; is_invalidated = m.is_invalidated } };
 }
 
 impl KeptWrite {
@@ -73,25 +74,27 @@ impl KeptWrite {
         ensures { result ≡ write_of remembered.untouched }
     {
         KeptWrite {
-            line: Line::Host,
             place: 0,
             number: 0,
+            queue: 0,
             is_written: false,
             is_invalidated: false,
         }
     }
 
     /// After the command of a spot has written the byte. A number past 32 bits is answered as want of
-    /// memory: no memory holds so many nodes.
+    /// memory: no memory holds so many nodes. So is a spot of no command of one of the first 256
+    /// queues.
     pub(crate) fn by(spot: Spot) -> Result<KeptWrite, AllocError>
         ensures { IfOk result (λ kept. kept ≡ write_of (remembered.with_touch remembered.untouched touch.Write spot)) }
     {
+        let queue = queue_of(spot.line)?;
         let place = short(spot.place)?;
         let number = short(spot.number)?;
         Ok(KeptWrite {
-            line: spot.line,
             place,
             number,
+            queue,
             is_written: true,
             is_invalidated: false,
         })
@@ -117,10 +120,23 @@ impl KeptWrite {
             return None;
         }
         Some(Spot {
-            line: self.line,
+            line: Line::Commands(u32::from(self.queue)),
             place: self.place as usize,
             number: self.number as usize,
         })
+    }
+}
+
+/// The queue of a line of commands, in 8 bits.
+fn queue_of(line: Line) -> Result<u8, AllocError>
+    ensures { IfOk result (λ queue. OfCommands queue ≡ line) }
+{
+    match line {
+        Line::Commands(queue) => match u8::try_from(queue) {
+            Ok(queue) => Ok(queue),
+            Err(_) => Err(AllocError),
+        },
+        _ => Err(AllocError),
     }
 }
 
@@ -137,9 +153,9 @@ fn short(number: usize) -> Result<u32, AllocError>
 impl RangeValue for KeptWrite {
     fn duplicate(&self) -> Result<KeptWrite, AllocError> {
         Ok(KeptWrite {
-            line: self.line,
             place: self.place,
             number: self.number,
+            queue: self.queue,
             is_written: self.is_written,
             is_invalidated: self.is_invalidated,
         })
