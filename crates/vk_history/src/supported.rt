@@ -5,8 +5,7 @@ ghost use Rattle.vk_order.specs.PointViews.{action_of};
 use vk_model::Entry;
 use vk_order::{Action, Point};
 
-/// Whether the rules of this crate cover the point's form. The others have rules that are not written
-/// yet.
+/// Whether the history covers the point's form: all are covered but those of a defragmentation.
 pub fn is_supported(point: &Point<'_>) -> bool
     ensures { result ≡ supported.is_supported_action (action_of point.now.action) }
 {

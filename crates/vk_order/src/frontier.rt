@@ -36,8 +36,9 @@ use crate::tallies::{
 use std::alloc::{AllocError, Global};
 
 /// What is known of the nodes so far, for those that come next: of each line how many there are,
-/// and what comes after all of them; and what comes after submits, signals and elements of sets, by
-/// their names. Its size grows with the names and the lines, and not with the nodes.
+/// and what comes after all of them; what comes after submits, signals and elements of sets, by
+/// their names; and the elements that are limited to parts of resources. Its size grows with the
+/// lines, the names and these elements, and not with the other nodes.
 #[derive(Drop)]
 pub struct Frontier {
     alloc: Global,

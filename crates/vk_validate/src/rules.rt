@@ -15,7 +15,6 @@ mod binding;
 mod commands;
 mod hazards;
 mod ids;
-mod in_use;
 mod layouts;
 mod mapping;
 mod owners;
@@ -144,7 +143,7 @@ pub fn first_rule(history: &History<'_>, point: &Point<'_>) -> Result<Option<Rul
         return Ok(Some(rule));
     }
     let found = hazards::conflicts(history, point)?;
-    let is_used = in_use::breaks_in_use(history, point)?;
+    let is_used = hazards::breaks_in_use(history, point)?;
     Ok(first_late(history, point, found, is_used))
 }
 

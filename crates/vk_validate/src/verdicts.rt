@@ -60,12 +60,8 @@ pub enum Verdict<'a> {
 /// Says whether a trace breaks a rule, and which it breaks first. It fails only for want of memory.
 ///
 /// The points of a trace are its entries, in order, and the waits, the commands and the signals of
-/// the batches of its submits, each batch where its waits are met. The forms that are supported so
-/// far: buffers in memory of their own or in memory objects of the trace; frees of memory objects,
-/// and the end of buffers; semaphores and events; submits on all queues; maps, unmaps, reads,
-/// writes, flushes and invalidations of the host, its signals and waits; fills, updates and copies
-/// between buffers; barriers with elements on all memory and on buffers, sets and awaits; waits and
-/// signals of batches. A point of any other form is refused by `Rule::LiveId`.
+/// the batches of its submits, each batch where its waits are met. All forms are supported but those
+/// of a defragmentation: a point of one of these is refused by `Rule::LiveId`.
 pub fn validate<'a>(alloc: Global, entries: &'a [Entry]) -> Result<Verdict<'a>, AllocError>
     ensures reported { IfOk result (λ v. reported v ≡ reported_fault (order entries.now)) }
     ensures exact { IfOk result (λ v. IsTrue (is_supported (order entries.now)) → reported v ≡ first_fault entries.now) }
