@@ -201,3 +201,7 @@ class Batch:
         for kind, items in zip(("wait", "command", "signal"), self.content):
             for place, item in enumerate(items):
                 yield Point(kind, item, self.entry, self.number, place, self.queue)
+
+
+def same_place(point, other):
+    return (point.entry, point.batch, point.place) == (other.entry, other.batch, other.place)

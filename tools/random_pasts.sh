@@ -4,18 +4,19 @@
 #     tools/random_pasts.sh [COUNT] [SEED] [SECONDS]
 #
 # COUNT pasts are drawn (200 where nothing is said), the first from SEED (1), each next one from the
-# next number, and all must be compared within SECONDS (3600). The crate is copied, and a crate is
-# made of the files of random_pasts/ with what the tests of the libraries have for points; its tests
-# are run by `rt try`, so nothing is proved. A difference stops the run, and is told with its seed.
+# next number, and all must be compared within SECONDS (3600). The crate and those below it are
+# copied, and a crate is made of the files of random_pasts/ with what the tests of the libraries
+# have for points; its tests are run by `rt try`, so nothing is proved. A difference stops the run,
+# and is told with its seed.
 set -eu
 count=${1:-200} seed=${2:-1} seconds=${3:-3600}
 here=$(cd "$(dirname "$0")" && pwd)
 room=$(mktemp -d)
 trap 'rm -rf "$room"' EXIT
 mkdir "$room/crates"
-grep -E '^vk_(model|order):' "$here/../crates.txt" >"$room/crates.txt"
+grep -E '^vk_(ids|model|order):' "$here/../crates.txt" >"$room/crates.txt"
 echo 'pasts: vk_model vk_order' >>"$room/crates.txt"
-for crate in vk_model vk_order; do
+for crate in vk_ids vk_model vk_order; do
     mkdir "$room/crates/$crate"
     cp -r "$here/../crates/$crate/src" "$here/../crates/$crate/specs" "$room/crates/$crate"
 done

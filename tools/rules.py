@@ -4,15 +4,14 @@ Each is a question to a reading (slow_reading.py) about a point that comes and t
 """
 
 from entries import aligned, is_tiled, place_of, rounded, usage_of
+from hazard_rules import hazard_raw, hazard_war, hazard_waw, meets, read_undefined
 from image_rules import bad_layout, bad_subresource, image_overlaps, misplaced_regions, old_layout
 from image_rules import regions_past, texels_differ
-from points import ALL_COMMANDS, ATOM, HOST, TRANSFER, family_of, is_on_image, named_by
-from seeing import sees
+from order_rules import event_dependency, event_state, owner_pair, signal_order, signal_value, stage
+from points import ATOM, is_on_image, named_by
 from shapes import Shape
 from slow_room import in_pool
 
-STAGES = TRANSFER | HOST | ALL_COMMANDS
-ACCESSES = 2048 | 4096 | 8192 | 16384 | 32768 | 65536
 MOST_BYTES = 67_108_864
 PAGE = 1_024
 MOST_BLOCK, MOST_BLOCKS = 16_777_216, 64
@@ -161,10 +160,6 @@ def reaches_past(reading, item):
     return any(high > reading.size_of(buffer) for buffer, _, high in reading.writes_of(item) + reading.reads_of(item))
 
 
-def meets(first, second):
-    return first[0] == second[0] and max(first[1], second[1]) < min(first[2], second[2])
-
-
 def overlaps(reading, copy):
     writes, reads = reading.writes_of(copy), reading.reads_of(copy)
     twice = any(meets(w, v) for k, w in enumerate(writes) for v in writes[:k])
@@ -210,155 +205,6 @@ def in_use(reading, point, own):
         places = [place_of(entry) for entry in reading.live("resource")]
         return any(place[0] != "dedicated" and place[1] == thing for place in places)
     return False
-
-
-def bad_masks(stages, accesses):
-    return bool(
-        stages & ~STAGES
-        or accesses & ~ACCESSES
-        or accesses & (2048 | 4096) and not stages & (TRANSFER | ALL_COMMANDS)
-        or accesses & (8192 | 16384) and not stages & HOST
-    )
-
-
-def stage(reading, point, own):
-    if point.kind in ("wait", "signal"):
-        return bool(point.content[2] & ~STAGES or point.content[2] & HOST)
-    nodes = [reading.nodes[number] for number in own]
-    elements = [node for node in nodes if node.kind == "element"]
-    return any(
-        bad_masks(*node.content[:2])
-        or bad_masks(*node.content[2:4])
-        or node.role[0] != "barrier" and node.content[0] & HOST
-        for node in elements
-    )
-
-
-def is_partial(reading, element):
-    """Whether an element transfers less than its whole resource."""
-    if is_on_image(element):
-        shape = reading.shapes[element[6]]
-        return element[4] != element[5] and list(element[9]) != [0, shape.levels, 0, shape.layers]
-    _, _, _, _, source, destination, buffer, offset, size = element
-    return source != destination and (offset != 0 or size not in ("whole", reading.size_of(buffer)))
-
-
-def owner_pair(reading, point, own):
-    """Whether an element doesn't fit; each is judged by the owners that those before it leave."""
-    owners = reading.owners.copy()
-    for number in own:
-        node = reading.nodes[number]
-        half = node.half() if node.kind == "element" else None
-        if half is not None:
-            if half == "neither" or max(node.content[4:6]) > 1 or not reading.is_exclusive(node.buffer):
-                return True
-            _, released = owners.get(node.buffer, (None, None))
-            if released is not None if half == "release" else not completes(reading, number, released):
-                return True
-            owners[node.buffer] = (family_of(point.queue), number if half == "release" else None)
-    return False
-
-
-def completes(reading, acquire, release):
-    """Whether an acquire has an equal release that comes before it."""
-    if release is None:
-        return False
-    halves = [reading.nodes[number].content for number in (release, acquire)]
-    if len({tuple(half[4 : 9 if is_on_image(half) else 7]) for half in halves}) > 1:
-        return False
-    return reading.comes_before(release, acquire)
-
-
-def event_state(reading, point, own):
-    if point.kind != "command" or point.content[0] not in ("set", "await"):
-        return False
-    sets = reading.sets.get(point.content[1], [])
-    if point.content[0] == "set":
-        return bool(sets)
-    return all(queue != point.queue for queue, _ in sets)
-
-
-def event_dependency(reading, point, own):
-    if point.kind != "command" or point.content[0] != "await":
-        return False
-    return all(elements != point.content[2] for _, elements in reading.sets.get(point.content[1], []))
-
-
-def signal_value(reading, point, own):
-    signals = [reading.nodes[number].signaled() for number in own]
-    return any(s is not None and s[1] <= reading.counters.get(s[0], -1) for s in signals)
-
-
-def signal_order(reading, point, own):
-    for number in own:
-        signal = reading.nodes[number].signaled()
-        if signal is not None:
-            earlier = (earlier for _, earlier in reading.signals.get(signal[0], []))
-            if any(not reading.comes_before(e, number) for e in earlier):
-                return True
-    return False
-
-
-def conflicts(reading, own, mine, earlier, is_judged_well):
-    """Whether an earlier access has a byte of these and isn't judged well by its node, the buffer and the
-    byte; two of the host always are."""
-    by_host = mine and reading.nodes[own[0]].on_host
-    for number, *ranged in earlier:
-        if by_host and reading.nodes[number].on_host:
-            continue
-        for own_range in mine:
-            both = common(reading, ranged, own_range)
-            if any(not is_judged_well(number, ranged[0], byte) for byte in both):
-                return True
-    return False
-
-
-def common(reading, first, second):
-    """Of the bytes that two ranges have in common, one of each part that no element, flush or
-    invalidation treats in two ways."""
-    if not meets(first, second):
-        return []
-    low, high = max(first[1], second[1]), min(first[2], second[2])
-    borders = {border for node in reading.nodes for border in node.borders(first[0])}
-    return [low, *sorted(border for border in borders if low < border < high)]
-
-
-def accesses(point, reads_or_writes):
-    return reads_or_writes(point.content) if point.kind in ("host", "command") else []
-
-
-def judged(reading, own, reads_or_writes, is_bad):
-    """Whether it's so of what one of a point's nodes reads or writes: a transition does both."""
-    for number in own:
-        node = reading.nodes[number]
-        mine = accesses(node.point, reads_or_writes)
-        if node.kind == "element":
-            mine = [(node.buffer, *part) for part in node.parts] if node.is_transition() else []
-        if is_bad([number], mine):
-            return True
-    return False
-
-
-def hazard_war(reading, point, own):
-    return judged(reading, own, reading.writes_of, lambda at, mine: conflicts(
-        reading, at, mine, reading.reads_made, lambda n, b, k: reading.comes_before(n, at[0])
-    ))
-
-
-def hazard_raw(reading, point, own):
-    return judged(reading, own, reading.reads_of, lambda at, mine: conflicts(
-        reading, at, mine, reading.writes, lambda *w: sees(reading, at[0], "read", *w)
-    ))
-
-
-def hazard_waw(reading, point, own):
-    return judged(reading, own, reading.writes_of, lambda at, mine: conflicts(
-        reading, at, mine, reading.writes, lambda *w: sees(reading, at[0], "write", *w)
-    ))
-
-
-def read_undefined(reading, entry):
-    return 0 in reading.defined[entry[1]][entry[2] : entry[2] + entry[3]]
 
 
 NEED_A_MAPPING = ("read", "write", "flush", "invalidate", "unmap")

@@ -8,7 +8,7 @@ before it.
 """
 
 from entries import place_of, sharing_of
-from points import ATOM, Batch, Point, family_of, is_on_image, named_by, reached
+from points import ATOM, Batch, Point, family_of, is_on_image, named_by, reached, same_place
 from rules import RULES
 from shapes import Shape, box_of, buffer_rows, destination_box, source_box
 from slow_room import Room
@@ -389,10 +389,6 @@ class Reading:
         if self.stop is None:
             return lines, 0
         return lines + f"stopped {self.stop} NO_ROOM\n", 3
-
-
-def same_place(point, other):
-    return (point.entry, point.batch, point.place) == (other.entry, other.batch, other.place)
 
 
 def read(trace, heaps):
