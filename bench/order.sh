@@ -1,8 +1,10 @@
 #!/bin/bash
 # Measures the program on traces near its limits that are about order: queues that wait for each
-# other, batches that wait for one signal, barriers of many elements, events. Each comes in two
-# sizes, so that a reader sees how the time grows (bench/common.sh).
+# other, batches that wait for one signal, barriers of many elements, events, fills with barriers, and
+# fills side by side that the host reads as often. Each comes in two sizes, so that a reader sees how
+# the time grows (bench/common.sh).
 . "$(dirname "${BASH_SOURCE[0]}")/common.sh"
+. "$(dirname "${BASH_SOURCE[0]}")/fills.sh"
 
 # The entries that wait until semaphore 3 has value 1, and read the first word of buffer 1.
 read_word='["wait",[[3,1]]],["map",1],["read",1,0,4]]'
@@ -94,5 +96,11 @@ for n in 100000 200000; do
 done
 for n in 5000 10000; do
     row "events_$n" 0 "events_answer $n" events "$n"
+done
+for n in 32500 65000; do
+    row "ordered_fills_$n" 0 "ordered_fills_answer $n" ordered_fills "$n"
+done
+for n in 2000 4000; do
+    row "side_by_side_$n" 0 "side_by_side_answer $n" side_by_side "$n"
 done
 finish
