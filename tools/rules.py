@@ -7,7 +7,8 @@ from entries import aligned, is_tiled, place_of, rounded, usage_of
 from hazard_rules import hazard_raw, hazard_war, hazard_waw, meets, read_undefined
 from image_rules import bad_layout, bad_subresource, image_overlaps, misplaced_regions, old_layout
 from image_rules import regions_past, texels_differ
-from order_rules import event_dependency, event_state, owner_pair, signal_order, signal_value, stage
+from order_rules import event_dependency, event_state, is_partial, owner_pair, signal_order
+from order_rules import signal_value, stage
 from points import ATOM, is_on_image, named_by
 from shapes import Shape
 from slow_room import in_pool
