@@ -187,7 +187,7 @@ int main(int count, char **words) {
 END
 fi
 
-# FILE: sets `least` to the fewest nanoseconds of a turn that are told there.
+# FILE: sets `least` to the fewest nanoseconds of a turn that are printed there.
 least_of() {
     least=$(awk '$10 == "least" && (!some++ || $11 < least) { least = $11 } END { print least }' "$1")
 }

@@ -7,7 +7,7 @@
 # next number, and all must be compared within SECONDS (3600). The crate and those below it are
 # copied, and a crate is made of the files of random_pasts/ with what the tests of the libraries
 # have for points; its tests are run by `rt try`, so nothing is proved. A difference stops the run,
-# and is told with its seed.
+# and is printed with its seed.
 set -eu
 count=${1:-200} seed=${2:-1} seconds=${3:-3600}
 here=$(cd "$(dirname "$0")" && pwd)

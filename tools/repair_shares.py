@@ -1,11 +1,11 @@
 #!/usr/bin/env python3
-"""Counts how many refused random traces `explain` tells a repair of, and how many are accepted after it.
+"""Counts how many refused random traces `explain` reports a repair of, and how many are accepted after it.
 
     tools/repair_shares.py --count 200 --seed 1 crates/explain/out/explain
 
 Traces are drawn as by random_traces.py until so many are refused; a drawn trace that is accepted is
 broken by leaving out one entry, command, element, wait or signal, if that breaks it. Of each it is counted
-by its rule whether a repair is told, whether the changed trace is accepted, and whether the trace that
+by its rule whether a repair is reported, whether the changed trace is accepted, and whether the trace that
 `--repaired` writes is. Prints a row for each rule. With --failing FOLDER the traces that aren't accepted
 in the end are written there, each named by its seed and number.
 """
@@ -49,16 +49,16 @@ def broken(chance, trace, heaps, tries):
 
 
 def count(program, trace, tried, counts):
-    """Counts what is told of a refused trace; whether it is accepted in the end."""
-    told, status = run(program, trace, "--json")
-    said = json.loads(told)
+    """Counts what is reported of a refused trace; whether it is accepted in the end."""
+    output, status = run(program, trace, "--json")
+    said = json.loads(output)
     rule = said["rule"]
     tried[rule] += 1
     if status != 1:
         raise SystemExit(f"status {status}: {json.dumps(trace)}")
     if said["repair"] is None:
         return False
-    counts[rule, "told"] += 1
+    counts[rule, "reported"] += 1
     counts[rule, "accepted"] += said["repair"]["then"] == "accepted"
     _, status = run(program, trace, "--repaired")
     counts[rule, "in the end"] += status == 0
@@ -74,8 +74,8 @@ def arguments():
     return parser.parse_args()
 
 
-def row(name, tried, told, accepted, in_the_end):
-    shares = (f"{100 * part / tried:.0f} %" for part in (told, accepted, in_the_end))
+def row(name, tried, reported, accepted, in_the_end):
+    shares = (f"{100 * part / tried:.0f} %" for part in (reported, accepted, in_the_end))
     print("| " + " | ".join((name, str(tried), *shares)) + " |")
 
 
@@ -97,7 +97,7 @@ def main():
         number += 1
     print("| Rule | Refused | A repair is reported | Accepted after it | Accepted in the end |")
     print("|---|---|---|---|---|")
-    kinds = ("told", "accepted", "in the end")
+    kinds = ("reported", "accepted", "in the end")
     for rule, of_rule in tried.most_common():
         row(rule, of_rule, *(counts[rule, kind] for kind in kinds))
     row("all", tried.total(), *(sum(counts[rule, kind] for rule in tried) for kind in kinds))

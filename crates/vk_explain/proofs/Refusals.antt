@@ -7,7 +7,7 @@ use Rattle.vk_words.specs.Points.{kind_text, at_text, BeginsWith}
 use Rattle.vk_trace.specs.declared.printing.Outcome.TheVariants.{Refused}
 use Rattle.vk_trace.specs.Text.{lines_of}
 use Rattle.vk_facts.specs.declared.facts.Fact.{Fact}
-use Rattle.vk_facts.specs.Facts.{IsToldOf}
+use Rattle.vk_facts.specs.Facts.{IsReportedOf}
 use Rattle.vk_links.specs.declared.links.Links.{Links}
 use Rattle.vk_fact_words.specs.FactText.{fact_line, fact_member}
 use Rattle.vk_fact_words.specs.LinksText.{AreLinksOf, links_line, links_member}
@@ -19,7 +19,7 @@ grouped l p r f k = sym (append_assoc ((l ++ p) ++ r) f k ∙ append_assoc (l ++
 
 -- as lines
 pub text_is : (entries : List Entry) → (at : At) → (rule : Rule) → (fact : Option Fact) → (links : Option Links) → (p q x y t0 t1 t2 t3 t4 : List ℕ)
-    → BeginsWith (kind_text at ++ at_text at) p → IsToldOf entries at rule fact → AreLinksOf entries at fact links
+    → BeginsWith (kind_text at ++ at_text at) p → IsReportedOf entries at rule fact → AreLinksOf entries at fact links
     → t0 ≡ lines_of (Refused at rule) → t1 ≡ t0 ++ p → q ≡ rule_line rule ++ (fact_line fact ++ links_line links) → t2 ≡ t1 ++ q → t3 ≡ t2 ++ x → t4 ≡ t3 ++ y
     → IsRefusalText entries at rule t4
 text_is entries at rule fact links p q x y t0 t1 t2 t3 t4 named so linked a b ruled c d e = record {
@@ -37,7 +37,7 @@ text_is entries at rule fact links p q x y t0 t1 t2 t3 t4 named so linked a b ru
 
 -- as an object
 pub json_is : (entries : List Entry) → (at : At) → (rule : Rule) → (fact : Option Fact) → (links : Option Links) → (x t0 t1 : List ℕ)
-    → IsToldOf entries at rule fact → AreLinksOf entries at fact links
+    → IsReportedOf entries at rule fact → AreLinksOf entries at fact links
     → t0 ≡ json_verdict at rule ++ (fact_member fact ++ links_member links) → t1 ≡ t0 ++ x
     → IsRefusalJson entries at rule t1
 json_is entries at rule fact links x t0 t1 so linked a b = record {

@@ -11,7 +11,7 @@ use Rattle.vk_trace.specs.declared.printing.Outcome.TheVariants.{Refused as Refu
 use Rattle.vk_trace.specs.Trace.{IsTrace}
 use Rattle.vk_trace.specs.Text.{lines_of}
 use Rattle.vk_facts.specs.declared.facts.Fact.{Fact}
-use Rattle.vk_facts.specs.Facts.{IsToldOf}
+use Rattle.vk_facts.specs.Facts.{IsReportedOf}
 use Rattle.vk_links.specs.declared.links.Links.{Links}
 use Rattle.vk_fact_words.specs.FactText.{fact_line, fact_member}
 use Rattle.vk_fact_words.specs.LinksText.{AreLinksOf, links_line, links_member}
@@ -37,7 +37,7 @@ pub record IsRefusalText (entries : List Entry) (at : At) (rule : Rule) (text : 
   pub fact : Option Fact
   pub links : Option Links
   pub named : BeginsWith (kind_text at ++ at_text at) point
-  pub so : IsToldOf entries at rule fact
+  pub so : IsReportedOf entries at rule fact
   pub linked : AreLinksOf entries at fact links
   pub reported : BeginsWith (lines_of (RefusedBy at rule) ++ point ++ rule_line rule ++ fact_line fact ++ links_line links) text
 
@@ -53,7 +53,7 @@ json_verdict at rule = codes "{\"verdict\":\"refused\",\"at\":\"" ++ at_text at 
 pub record IsRefusalJson (entries : List Entry) (at : At) (rule : Rule) (text : List ℕ) : Type 0 where
   pub fact : Option Fact
   pub links : Option Links
-  pub so : IsToldOf entries at rule fact
+  pub so : IsReportedOf entries at rule fact
   pub linked : AreLinksOf entries at fact links
   pub reported : BeginsWith (json_verdict at rule ++ fact_member fact ++ links_member links) text
 

@@ -1,5 +1,5 @@
 ghost use Rattle.std.specs.Prelude.{◌≡◌, ◌++◌, OnOk, IfOk, string_bytes};
-ghost use Rattle.vk_facts.specs.Facts.{IsToldOf};
+ghost use Rattle.vk_facts.specs.Facts.{IsReportedOf};
 ghost use Rattle.vk_fact_words.specs.LinksText as text;
 ghost use Rattle.vk_fact_words.specs.LinksText.{AreLinksOf};
 
@@ -17,7 +17,7 @@ pub fn links_of_fact<'a>(
     rule: Rule,
     fact: &Option<Fact<'a>>,
 ) -> Result<Option<Links<'a>>, AllocError>
-    requires { IsToldOf trace.now at rule fact.now }
+    requires { IsReportedOf trace.now at rule fact.now }
     ensures { IfOk result (AreLinksOf trace.now at fact.now) }
 {
     match fact {

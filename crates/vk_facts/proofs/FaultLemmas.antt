@@ -22,7 +22,7 @@ use Rattle.vk_facts.specs.declared.hazards.Hazard.TheVariants.{War, Raw, Waw}
 use Rattle.vk_facts.specs.declared.hazards.HazardFact.{HazardFact}
 use Rattle.vk_facts.specs.Hazards.{rule_of}
 use Rattle.vk_facts.specs.Latest.{IsBest}
-use Rattle.vk_facts.specs.Facts.{IsHazardOf, IsReported, IsUnreported, IsToldOf}
+use Rattle.vk_facts.specs.Facts.{IsHazardOf, IsReported, IsUnreported, IsReportedOf}
 
 -- points of an ordered past that are reported alike are one, with the same points before it
 pub same_point : (all b : Past) (p : Point) → Comes all b p → (c : Past) (q : Point) → Comes all c q → IsOrdered all → at_of p ≡ at_of q → (b ≡ c) × (p ≡ q)
@@ -52,7 +52,7 @@ somewhere t at r is none = let f = first_at t at r is in none f.before f.point f
 
 -- what is reported of the point at this place is reported of the one that the trace is refused at
 pub reported_of : (t : List Entry) (at : At) (r : Rule) (past : Past) (found : Option Fact) → first_fault t ≡ Some (at, r) → IsUntil (order t) at past
-    → ((before : Past) (p : Point) → past ≡ p ∷ before → IsReported r before p found) → IsToldOf t at r found
+    → ((before : Past) (p : Point) → past ≡ p ∷ before → IsReported r before p found) → IsReportedOf t at r found
 reported_of t at r past found is until reported =
     let f = first_at t at r is in
     let same = same_point (order t) f.before f.point f.comes until.before until.point until.comes (order_ordered t) (f.is_reported ∙ sym until.is_reported) in
@@ -67,20 +67,20 @@ reported_of t at r past found is until reported =
 
 -- the same where no point was found, and where one was
 pub none_reported : (t : List Entry) (at : At) (r : Rule) (found : Option Past) → first_fault t ≡ Some (at, r) → found ≡ None
-    → MatchOption found (IsNowhere (order t) at) (IsUntil (order t) at) → IsToldOf t at r None
+    → MatchOption found (IsNowhere (order t) at) (IsUntil (order t) at) → IsReportedOf t at r None
 none_reported t at r found is none of = absurd (somewhere t at r is (subst (λ (o : Option Past). MatchOption o (IsNowhere (order t) at) (IsUntil (order t) at)) none of))
 
 pub some_reported : (t : List Entry) (at : At) (r : Rule) (found : Option Past) (past : Past) (fact : Option Fact) → first_fault t ≡ Some (at, r) → found ≡ Some past
-    → MatchOption found (IsNowhere (order t) at) (IsUntil (order t) at) → ((before : Past) (p : Point) → past ≡ p ∷ before → IsReported r before p fact) → IsToldOf t at r fact
+    → MatchOption found (IsNowhere (order t) at) (IsUntil (order t) at) → ((before : Past) (p : Point) → past ≡ p ∷ before → IsReported r before p fact) → IsReportedOf t at r fact
 some_reported t at r found past fact is some of reported = reported_of t at r past fact is (subst (λ (o : Option Past). MatchOption o (IsNowhere (order t) at) (IsUntil (order t) at)) some of) reported
 
 -- that there is no hazard of a kind is what is reported of its rule
-hazard_untold : (h : Hazard) (past : Past) (p : Point) → IsHazardOf past p h None → IsUnreported (rule_of h) past p
-hazard_untold War past p none = none
-hazard_untold Raw past p none = none
-hazard_untold Waw past p none = none
+hazard_unreported : (h : Hazard) (past : Past) (p : Point) → IsHazardOf past p h None → IsUnreported (rule_of h) past p
+hazard_unreported War past p none = none
+hazard_unreported Raw past p none = none
+hazard_unreported Waw past p none = none
 
 pub no_hazard_reported : (h : Hazard) (now past : Past) (p : Point) (found : Option HazardFact) → now ≡ p ∷ past → found ≡ None
     → IsBest now h (length (nodes past)) (length (nodes now)) found → IsUnreported (rule_of h) past p
 no_hazard_reported h now past p found is none best =
-    hazard_untold h past p (subst (λ (o : Option HazardFact). IsHazardOf past p h o) none (subst (λ (l : Past). IsBest l h (length (nodes past)) (length (nodes l)) found) is best))
+    hazard_unreported h past p (subst (λ (o : Option HazardFact). IsHazardOf past p h o) none (subst (λ (l : Past). IsBest l h (length (nodes past)) (length (nodes l)) found) is best))

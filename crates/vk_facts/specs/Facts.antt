@@ -50,7 +50,7 @@ IsReported r past p None = IsUnreported r past p
 IsReported r past p (Some f) = IsSo r past p f
 
 -- What is reported of the point that a trace is refused at: of the point of its reference order at this place, with what came before it, which breaks the rule.
-pub record IsToldOf (entries : List Entry) (at : At) (r : Rule) (found : Option Fact) : Type 0 where
+pub record IsReportedOf (entries : List Entry) (at : At) (r : Rule) (found : Option Fact) : Type 0 where
   pub before : Past
   pub point : Point
   pub comes : Comes (order entries) before point

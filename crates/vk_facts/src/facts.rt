@@ -4,7 +4,7 @@ ghost use Rattle.vk_model.specs.declared.rule.Rule.TheVariants as rule;
 ghost use Rattle.vk_model.specs.Rules.Table.{first_fault};
 ghost use Rattle.vk_order.specs.PointViews.{point_of};
 ghost use Rattle.vk_queues.specs.PointViews.{past_of};
-ghost use Rattle.vk_facts.specs.Facts.{IsReported, IsToldOf};
+ghost use Rattle.vk_facts.specs.Facts.{IsReported, IsReportedOf};
 ghost use Rattle.vk_facts.specs.Hazards.{rule_of};
 
 use crate::counters::{CounterFact, endless_wait, low_signal};
@@ -111,7 +111,7 @@ pub fn fact_of_fault<'a>(
     rule: Rule,
 ) -> Result<Option<Fact<'a>>, AllocError>
     requires { first_fault entries.now ≡ Some (at, rule) }
-    ensures { IfOk result (IsToldOf entries.now at rule) }
+    ensures { IfOk result (IsReportedOf entries.now at rule) }
 {
     let Some(past) = Past::until(alloc, entries, at)? else {
         return Ok(None);

@@ -15,7 +15,7 @@ use Rattle.vk_facts.specs.declared.facts.Fact.TheVariants as fact
 use Rattle.vk_facts.specs.declared.hazards.Hazard.{Hazard}
 use Rattle.vk_facts.specs.declared.hazards.Hazard.TheVariants.{War, Raw, Waw}
 use Rattle.vk_facts.specs.declared.hazards.HazardFact.{HazardFact}
-use Rattle.vk_facts.specs.Facts.{IsHazardOf, IsSo, IsToldOf}
+use Rattle.vk_facts.specs.Facts.{IsHazardOf, IsSo, IsReportedOf}
 use Rattle.vk_model.specs.Sync.Access.{is_in}
 use Rattle.vk_facts.specs.Hazards.{node_at, is_missing, earlier_bytes, later_bytes}
 use Rattle.vk_past.specs.Until.{IsNowhere, IsUntil}
@@ -51,7 +51,7 @@ lacking rule.HazardWaw past p f so = lacking_of past p Waw f so
 lacking _ past p f so = absurd so
 
 -- the point that is reported of is the one up to which points are
-pub until_lacking : (t : List Entry) (at : At) (r : Rule) (f : HazardFact) (past : Past) → IsToldOf t at r (Some (fact.Hazard f)) → IsUntil (order t) at past → IsLacking past f
+pub until_lacking : (t : List Entry) (at : At) (r : Rule) (f : HazardFact) (past : Past) → IsReportedOf t at r (Some (fact.Hazard f)) → IsUntil (order t) at past → IsLacking past f
 until_lacking t at r f past reported until =
     let same = same_point (order t) reported.before reported.point reported.comes until.before until.point until.comes (order_ordered t) (reported.is_reported ∙ sym until.is_reported) in
     let here : reported.point ∷ reported.before ≡ past = ap (λ (b : Past). reported.point ∷ b) same.0 ∙ ap (λ (p : Point). p ∷ until.before) same.1 ∙ sym until.here in
@@ -69,5 +69,5 @@ until_links t at f past l until are = record {
 pub until_some : (t : List Entry) (at : At) (found : Option Past) (past : Past) → found ≡ Some past → MatchOption found (IsNowhere (order t) at) (IsUntil (order t) at) → IsUntil (order t) at past
 until_some t at found past is of = subst (λ (o : Option Past). MatchOption o (IsNowhere (order t) at) (IsUntil (order t) at)) is of
 
-pub reported_somewhere : (t : List Entry) (at : At) (r : Rule) (f : HazardFact) (found : Option Past) → found ≡ None → IsToldOf t at r (Some (fact.Hazard f)) → MatchOption found (IsNowhere (order t) at) (IsUntil (order t) at) → ⊥
+pub reported_somewhere : (t : List Entry) (at : At) (r : Rule) (f : HazardFact) (found : Option Past) → found ≡ None → IsReportedOf t at r (Some (fact.Hazard f)) → MatchOption found (IsNowhere (order t) at) (IsUntil (order t) at) → ⊥
 reported_somewhere t at r f found is reported of = (subst (λ (o : Option Past). MatchOption o (IsNowhere (order t) at) (IsUntil (order t) at)) is of) reported.before reported.point reported.comes reported.is_reported

@@ -1,7 +1,7 @@
 ghost use Rattle.std.specs.Prelude.{IfOk, MatchOption, Some};
 ghost use Rattle.vk_model.specs.Trace.Order.{order};
 ghost use Rattle.vk_facts.specs.declared.facts.Fact.TheVariants as fact_of;
-ghost use Rattle.vk_facts.specs.Facts.{IsToldOf};
+ghost use Rattle.vk_facts.specs.Facts.{IsReportedOf};
 ghost use Rattle.vk_past.specs.Until.{IsUntil, IsNowhere};
 ghost use Rattle.vk_links.specs.Faults.{AreLinksAt};
 
@@ -21,7 +21,7 @@ pub fn links_of_fault<'a>(
     rule: Rule,
     fact: &HazardFact<'a>,
 ) -> Result<Links<'a>, AllocError>
-    requires { IsToldOf entries.now at rule (Some (fact_of.Hazard fact.now)) }
+    requires { IsReportedOf entries.now at rule (Some (fact_of.Hazard fact.now)) }
     ensures { IfOk result (AreLinksAt entries.now at fact.now) }
 {
     let Some(nodes) = Nodes::until(alloc, entries, at)? else {

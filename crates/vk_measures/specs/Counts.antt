@@ -129,7 +129,7 @@ command_limits past _ _ _ = None
 abbrev pub IsAmount : (Item → Quantity → Option Limits) → Amount → Type 0
 IsAmount numbers m = (numbers m.item m.quantity ≡ Some (limits m.value m.least m.most)) × (is_out m.value m.least m.most ≡ true)
 
--- The same, and there is nothing else to tell.
+-- The same, and there is nothing else to report.
 abbrev pub IsSizeOf : (Item → Quantity → Option Limits) → SizeMeasure → Type 0
 IsSizeOf numbers (measure.Amount m) = IsAmount numbers m
 IsSizeOf numbers (measure.Block n) = ⊥

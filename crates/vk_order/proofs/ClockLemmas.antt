@@ -305,7 +305,7 @@ module _ (ns : List Node) (test : Node → Bool) (n : Node) (clock join : Clock)
 -- ---- what may be joined over
 
 pub lines_whole : (ns : List Node) (test : Node → Bool) (f : Line → Bool) → ((k : Node) (l : Line) → Contains ns k → line_of k ≡ Some l → test k ≡ f l) → IsWhole ns test
-lines_whole ns test f told l c d hc hd lc ld lt is = (c, hc, told c l hc lc ∙ sym (told d l hd ld) ∙ is, inl refl)
+lines_whole ns test f tested l c d hc hd lc ld lt is = (c, hc, tested c l hc lc ∙ sym (tested d l hd ld) ∙ is, inl refl)
 
 module _ (ns : List Node) (n : Node) (clock : Clock) (numbers : IsNumbered ns) (hn : Contains ns n)
     (ordered : (l : Line) (c : Node) → Contains ns c → line_of c ≡ Some l → line_of n ≡ Some l → c.number < n.number → IsTrue (before ns c n)) (is : IsClock ns n clock) where

@@ -245,7 +245,7 @@ units_alike_at f part write from (units.Bytes b) at next kept parts = says_alike
 units_alike_at f part write from (units.Subresources i levels) at next kept parts =
     says_alike_at f part write from (in_image i (at % levels) (at / levels) 0 0 0) (in_image i (next % levels) (next / levels) 0 0 0) refl kept parts
 
--- elements don't tell the bytes of a unit apart
+-- elements treat the bytes of a unit alike
 covers_unit : (u : Units) (k : ℕ) (c : Byte) → IsOfUnit u k c → (e : Element) → covers e c ≡ covers e (unit_byte u k)
 covers_unit (units.Bytes b) k c is e = ap (covers e) is
 covers_unit (units.Subresources i levels) k c is (element.Memory d) = refl

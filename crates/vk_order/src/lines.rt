@@ -209,7 +209,7 @@ impl Line {
 }
 
 /// The index of a line among others. It is asked at each node, mostly for commands and elements, so
-/// these are told apart before the search.
+/// these are set apart before the search.
 pub fn index_among(lines: &[Line], line: Line) -> Option<usize>
     ensures { result ≡ index_in lines.now line }
 {

@@ -207,11 +207,11 @@ impl Frontier {
     ) -> bool
         ensures { result ≡ true → AlwaysShows self.now new_node.now write (access_of access) (byte_of byte) part.now }
     {
-        new_node.is_open(part, byte, access) && self.tells_of(part, write, byte)
+        new_node.is_open(part, byte, access) && self.is_known_at(part, write, byte)
     }
 
     /// Whether the write of a byte is known at a part, or made available by it.
-    fn tells_of(&self, part: &Part, write: Spot, byte: Byte) -> bool
+    fn is_known_at(&self, part: &Part, write: Spot, byte: Byte) -> bool
         ensures { result ≡ true → (ns : List Node) (w m : Node) (cached : world.Byte → Bool) → IsNumbered ns → IsPart ns (lines_of self.now.tallies.items) m part.now → Contains ns w → line_of w ≡ Some write.line → place ns write.line w.number ≡ write.place
             → Reaches ns w m ⊎ IsTrue (is_command w.act && makes_writes_available cached ns m (byte_of byte) m.act && edge ns w m) }
     {

@@ -129,7 +129,7 @@ areas_reported written read (part.Read i) other c reported = absurd reported
 areas_reported written read (part.Transition i) other c reported = absurd reported
 areas_reported written read (part.Listed i) other c reported = absurd reported
 
--- ---- what pairs of areas tell
+-- ---- what pairs of areas answer
 
 pub of_transitions : (es : List Element) (areas : List Area) (b : Bool) → areas ≡ map transition_area es → b ≡ some_pair areas_meet areas → b ≡ some_pair transitions_meet es
 of_transitions es areas b laid is = is ∙ ap (some_pair areas_meet) laid ∙ pairs_of transition_area transitions_meet transitions es

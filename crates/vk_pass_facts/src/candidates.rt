@@ -18,7 +18,7 @@ pub struct Candidate {
 }
 
 /// A command that names a live resource of a pool and that isn't known complete: of a started batch,
-/// or else of one that waits. Nothing is said of it: whoever tells of it looks at it again. The only
+/// or else of one that waits. Nothing is said of it: whoever reports it looks at it again. The only
 /// error is want of memory.
 pub fn candidate_of<'a>(
     alloc: Global,

@@ -26,7 +26,7 @@ impl Newest {
         }
     }
 
-    /// Takes the next point, and tells whether it is known to be new among the nodes so far: a command
+    /// Takes the next point, and answers whether it is known to be new among the nodes so far: a command
     /// is where it comes after the last one of its entry, as in reference order.
     pub fn note(&mut self, point: &Point<'_>) -> Result<bool, AllocError>
         ensures new { IfOk result (λ is_new. is_new ≡ true → (ns : List Node) → AreNewest self.old ns → IsNew (point_of point.now) ns) }

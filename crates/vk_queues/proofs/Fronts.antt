@@ -95,7 +95,7 @@ entered_again t now lines fresh count e x f w step same met = record {
 
 -- ---- a start
 
--- what the choice of a line tells
+-- what follows from the choice of a line
 pub chosen_waiting : (t : Tallies) (old here new : List Line) (count : ℕ) (f : Front) (best : Option Candidate) → AreWaiting t old count f → here ≡ old → map queued new ≡ map queued here
     → (AreAllMet f.past here → AreAllMet f.past new × IsBest (submissions f.past (map queued here)) (length here) best) → AreWaiting t new count f × IsBest (submissions f.past (map queued new)) (length new) best
 chosen_waiting t old here new count f best w is same next =

@@ -13,7 +13,7 @@ use std::cell::Cell;
 use std::marker::Model;
 
 /// Runs in the order of their ends, in chunks. Contracts see the list of the runs. A change at an
-/// end is told where to look for it first.
+/// end is given where to look for it first.
 #[derive(Drop)]
 pub(crate) struct SortedRuns<T> {
     /// Each chunk has the ends after those of the one before it, up to its last one. There is at

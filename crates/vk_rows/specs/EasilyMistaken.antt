@@ -1,4 +1,4 @@
--- Readings that are easily mistaken: each with a trace that tells the right one from the wrong one, and its twin.
+-- Readings that are easily mistaken: each with a trace that is judged otherwise by the wrong one, and its corrected trace.
 use Rattle.std.specs.Prelude.{[], ◌∷◌}
 use Rattle.vk_model.specs.declared.rule.Rule.TheVariants as rule
 use Rattle.vk_model.specs.declared.rule.At.TheVariants as at

@@ -40,7 +40,7 @@ pub fn ahead()
     ensures { Ahead }
 {}
 
-/// What is easily mistaken in the definitions: a trace for each reading, and its twin.
+/// What is easily mistaken in the definitions: a trace for each reading, and its corrected trace.
 pub fn easily_mistaken()
     ensures { EasilyMistaken }
 {}

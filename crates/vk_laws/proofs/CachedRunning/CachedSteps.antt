@@ -38,7 +38,7 @@ use Rattle.vk_laws.proofs.CachedRunning.Touches.{any_touches, Within, within_sam
 use Rattle.vk_laws.proofs.CachedRunning.NodesHappened.{event_task, event_is, Plain, Events, may_come}
 use Rattle.vk_laws.proofs.CachedRunning.LastWriters.{Last, last_start, last_other, last_piece, IsNamed, named_later}
 use Rattle.vk_laws.proofs.CachedRunning.HostCaches.{HostByte, HostOk, byte_within, host_batches, atoms_ok, entry_ok}
-use Rattle.vk_laws.proofs.CachedRunning.EntryCells.{where_told, atoms_reached}
+use Rattle.vk_laws.proofs.CachedRunning.EntryCells.{where_touched, atoms_reached}
 use Rattle.vk_laws.proofs.CachedRunning.HostEntries.{stays, entry_done}
 use Rattle.vk_laws.proofs.CachedRunning.CachedPieces.{offered_named, piece_done, piece_host}
 use Rattle.vk_laws.proofs.CachedRunning.EventsInTurn.{Named, Whole, all_happen}
@@ -184,7 +184,7 @@ module _ {t : List Entry} (known : Known t) (together : PiecesAreByteWrites) (fr
     at_touched touch queue test = record {
       at = i.at;
       done = i.done;
-      reached = where_told tr ca i.done cells i.reached test (touched touch (queue_agent queue)) (any_touches touch (queue_agent queue));
+      reached = where_touched tr ca i.done cells i.reached test (touched touch (queue_agent queue)) (any_touches touch (queue_agent queue));
       plain = i.plain;
       order = i.order;
       events = i.events;

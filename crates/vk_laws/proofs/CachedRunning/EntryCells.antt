@@ -31,8 +31,8 @@ ready past moved x c cell = after_host past moved x c cell
 -- ---- touches
 
 module _ (tr : TraceAccesses) (ca : Caching) (done : List Task) (cells : Cells) (r : Reached tr ca done cells) where
-  pub where_told : (test : Byte → Bool) (change : Cell → Cell) → ((cell : Cell) → Touched cell (change cell)) → Reached tr ca done (λ c. if test c then change (cells c) else cells c)
-  where_told test change each = Touch done cells _ r (λ c. go (cells c) (test c))
+  pub where_touched : (test : Byte → Bool) (change : Cell → Cell) → ((cell : Cell) → Touched cell (change cell)) → Reached tr ca done (λ c. if test c then change (cells c) else cells c)
+  where_touched test change each = Touch done cells _ r (λ c. go (cells c) (test c))
     where
       go : (cell : Cell) (b : Bool) → Touched cell (if b then change cell else cell)
       go cell true = each cell
@@ -42,7 +42,7 @@ module _ (tr : TraceAccesses) (ca : Caching) (done : List Task) (cells : Cells) 
   pub atoms_reached : (x : Entry) (atoms : List ℕ) → Reached tr ca done (after_atoms x atoms cells)
   atoms_reached x atoms =
       Touch done (λ c. if in_atoms (touched_by x) atoms c then written_back 0 (cells c) else cells c) _
-      (where_told (λ c. in_atoms (touched_by x) atoms c) (written_back 0) (back_touches 0)) (λ c. second c (in_atoms (touched_by x) atoms c))
+      (where_touched (λ c. in_atoms (touched_by x) atoms c) (written_back 0) (back_touches 0)) (λ c. second c (in_atoms (touched_by x) atoms c))
     where
       second : (c : Byte) (b : Bool) → Touched (if b then written_back 0 (cells c) else cells c) (if b then turned_over (cells c) else cells c)
       second c true = turn_touches (cells c)
@@ -65,12 +65,12 @@ module _ (tr : TraceAccesses) (ca : Caching) (done : List Task) (cells : Cells) 
           (more (λ cell. change 2 (change 1 (change 0 cell))) 3
           (more (λ cell. change 1 (change 0 cell)) 2
           (more (λ cell. change 0 cell) 1
-          (where_told test (change 0) (each 0)))))
+          (where_touched test (change 0) (each 0)))))
 
   pub ready_reached : (past : Past) (moved : List ℕ) (x : Entry) → Reached tr ca done (λ c. ready past moved x c (cells c))
   ready_reached past moved (entry.Write b o bytes) = r
-  ready_reached past moved (entry.Invalidate b o n) = where_told (λ c. is_cached past b && reaches b o n c) (dropped 0) (drop_touches 0)
-  ready_reached past moved (entry.Flush b o n) = where_told (λ c. is_cached past b && reaches b o n c) (written_back 0) (back_touches 0)
+  ready_reached past moved (entry.Invalidate b o n) = where_touched (λ c. is_cached past b && reaches b o n c) (dropped 0) (drop_touches 0)
+  ready_reached past moved (entry.Flush b o n) = where_touched (λ c. is_cached past b && reaches b o n c) (written_back 0) (back_touches 0)
   ready_reached past moved (entry.Submit q bs) = Touch done cells _ r (λ c. drop_touches (queue_agent q) (cells c))
   ready_reached past moved (entry.Pass d) = all_reached (λ c. among (resource_at c) moved) written_back back_touches
   ready_reached past moved (entry.EndPass d kept lost) = all_reached (λ c. among (resource_at c) moved) dropped drop_touches

@@ -1,7 +1,7 @@
 use Rattle.std.proofs.Common.{inl, inr, sym, ◌∙◌}
 use Rattle.vk_order.specs.Inner.Tallies.{lines_of}
 use Rattle.vk_order.proofs.ServeLemmas.{part_reached}
-use Rattle.vk_order.proofs.frontier.Frontier.tells_of.Goals as goal
+use Rattle.vk_order.proofs.frontier.Frontier.is_known_at.Goals as goal
 
 pub returns-then-reaches : goal.returns-then-reaches
 returns-then-reaches c = λ yes ns w m cached numbers part hw on at.
