@@ -32,7 +32,7 @@ def known(path):
 
 
 def named():
-    """Each identifier with where it stands."""
+    """Each identifier with where it is."""
     for pattern in PLACES:
         for path in sorted(TOP.glob(pattern)):
             for number, line in enumerate(path.read_text(encoding='utf-8').splitlines(), 1):

@@ -44,7 +44,7 @@ NO_TRACES = [
 
 
 def traces():
-    """Each trace with where it stands."""
+    """Each trace with where it is."""
     examples = TOP / 'examples'
     for path in [*sorted(examples.glob('*.json')), *sorted(examples.glob('rules/*.json'))]:
         if not path.name.endswith('.explained.json'):
@@ -59,7 +59,7 @@ def traces():
 
 
 def no_traces():
-    """Each text that is JSON and no trace, with where it stands."""
+    """Each text that is JSON and no trace, with where it is."""
     for path in sorted((TOP / 'examples' / 'no_traces').glob('*.json')):
         text = path.read_text(errors='replace')
         try:

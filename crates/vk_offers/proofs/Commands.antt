@@ -90,7 +90,7 @@ has_place (m ∷ ns) n c is = elim (contains-cons m ns n c) [
 
 -- ---- how many there are on a queue
 
--- whether a node stands on a queue
+-- whether a node is on a queue
 abbrev pub on_queue : ℕ → Node → Bool
 on_queue q n = n.point.queue == q
 

@@ -49,7 +49,7 @@ count_with p (e ∷ es) ns = let h = count_with p es (element_node p (length ns)
 
 module _ (ns : List Node) (cached : Byte → Bool) (w : Node) (k : Access) (b : Byte) (wrote : IsWrite cached ns w b) where
   -- an element among some nodes, and the same among others: both come after the same of the nodes that both have
-  record Stands (here there : List Node) (e : Element) (x y : Node) : Type 0 where
+  record Replaces (here there : List Node) (e : Element) (x y : Node) : Type 0 where
     numbers : IsNumbered here
     is : x.act ≡ Depends Barrier e
     is_too : y.act ≡ Depends Barrier e
@@ -64,7 +64,7 @@ module _ (ns : List Node) (cached : Byte → Bool) (w : Node) (k : Access) (b : 
     leads : (m : Node) → Contains ns m → edge here m x ≡ edge there m y
     comes : (m : Node) → Contains ns m → before here m x ≡ before there m y
 
-  module _ (here there : List Node) (e : Element) (x y : Node) (s : Stands here there e x y) where
+  module _ (here there : List Node) (e : Element) (x y : Node) (s : Replaces here there e x y) where
     -- what makes the write available is available there as well
     old_available : (a : Act) → w.act ≡ a → (p : Node) → Contains ns p → IsTrue (available_by cached here w a b p) → IsTrue (available_by cached there w a b p)
     old_available (Runs c) is p old h =
@@ -169,7 +169,7 @@ module _ (p : Point) (ns : List Node) (numbers : IsNumbered ns) (es : List Eleme
           (cases p es ns last.0 last.1))
           last.3
 
-  forth : (cached : Byte → Bool) (w : Node) (k : Access) (b : Byte) (wrote : IsWrite cached ns w b) → Stands ns cached w k b wrote (together ∷ all) (alone ∷ ns) e together alone
+  forth : (cached : Byte → Bool) (w : Node) (k : Access) (b : Byte) (wrote : IsWrite cached ns w b) → Replaces ns cached w k b wrote (together ∷ all) (alone ∷ ns) e together alone
   forth cached w k b wrote = record {
     numbers = now;
     is = refl;
@@ -189,7 +189,7 @@ module _ (p : Point) (ns : List Node) (numbers : IsNumbered ns) (es : List Eleme
       leads : (m : Node) → Contains ns m → edge (together ∷ all) m together ≡ edge (alone ∷ ns) m alone
       leads m c = edge-new together all m ∙ same_edge p all ns e m now numbers (there m c) c ∙ sym (edge-new alone ns m)
 
-  back : (cached : Byte → Bool) (w : Node) (k : Access) (b : Byte) (wrote : IsWrite cached ns w b) → Stands ns cached w k b wrote (alone ∷ ns) (together ∷ all) e alone together
+  back : (cached : Byte → Bool) (w : Node) (k : Access) (b : Byte) (wrote : IsWrite cached ns w b) → Replaces ns cached w k b wrote (alone ∷ ns) (together ∷ all) e alone together
   back cached w k b wrote =
       let f = forth cached w k b wrote in
       record {

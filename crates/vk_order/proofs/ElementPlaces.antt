@@ -15,7 +15,7 @@ use Rattle.vk_order.specs.Places.{IsElsewhere, IsApart}
 
 -- ---- nodes
 
--- a node that stands once acts are added is an older one, or is of one of the acts
+-- a node that is there once acts are added is an older one, or is of one of the acts
 pub with_member : (p : Point) (more : List Act) (ns : List Node) (n : Node) → Contains (with_acts p more ns) n → Contains ns n ⊎ ((n.point ≡ p) × Contains more n.act × (length ns ≤ n.number))
 with_member p [] ns n c = inl c
 with_member p (a ∷ more) ns n c = elim (with_member p more (record { number = length ns; point = p; act = a } ∷ ns) n c) [
@@ -26,7 +26,7 @@ with_member p (a ∷ more) ns n c = elim (with_member p more (record { number = 
   | inr late ↦ let le = late.2 in inr (late.0, contains-tail a more n.act late.1, omega arith)
 ]
 
--- a node's point stands in the past
+-- a node's point is in the past
 pub member_point : (past : Past) (m : Node) → Contains (nodes past) m → (before : Past) × Comes past before m.point × Contains (acts m.point.action) m.act
 member_point [] m c = absurd (none_in m c)
 member_point (p ∷ past) m c = elim (with_member p (acts p.action) (nodes past) m c) [

@@ -12,7 +12,7 @@ use vk_order::Action;
 pub struct Renaming {
     /// The other one.
     pub from: u32,
-    /// What stands for it.
+    /// What it is replaced by.
     pub to: u32,
 }
 

@@ -55,7 +55,7 @@ pub fn edits_of(alloc: Global, trials: &[Trial]) -> Result<Vec<Vec<Edit>>, Alloc
     Ok(all)
 }
 
-/// Lists of edits after which another fault stands than the given one, each with the lists that are
+/// Lists of edits after which the first fault is another than the given one, each with the lists that are
 /// tried then; the two together are of a kind.
 pub fn followed(
     alloc: Global,
@@ -128,7 +128,7 @@ fn trials_of(
     Ok(all)
 }
 
-/// Trials after which another fault stands than the one that they are for, each with the lists of a
+/// Trials after which the first fault is another than the one that they are for, each with the lists of a
 /// kind that are tried then.
 fn gone_on_all(
     alloc: Global,

@@ -74,8 +74,8 @@ renamed from to source destination same_from same_to gs = flat_same (numbered_wr
     (λ k lt. rw (same_from (g.source_offset + k), same_to (g.destination_offset + k)) refl))
 
 module _ (past : Past) (p : Point) (fit : IsWithin past p) where
-  image_stands : (i : ℕ) (m : ImageInfo) → image past i ≡ Some m → is_some (resource past i) ≡ true
-  image_stands i m of = image_is_resource past i (ap is_some of)
+  image_is_live : (i : ℕ) (m : ImageInfo) → image past i ≡ Some m → is_some (resource past i) ≡ true
+  image_is_live i m of = image_is_resource past i (ap is_some of)
 
   -- ---- from a buffer to an image
 
@@ -102,7 +102,7 @@ module _ (past : Past) (p : Point) (fit : IsWithin past p) where
           writes_now = same_image;
           unmoved = λ byte. refl;
           source_there = buffer_is_resource past b in_there;
-          destination_there = image_stands i m of;
+          destination_there = image_is_live i m of;
           reads_fit = λ g k. rw (size_of_buffer past b in_there) (c.reads_within g k);
           writes_fit = λ g k. rw (size_of_image past i m of) (c.writes_within g k);
         }
@@ -134,7 +134,7 @@ module _ (past : Past) (p : Point) (fit : IsWithin past p) where
               ∙ renamed (byte_of m i) (in_buffer b) (byte_at past i) (byte_at past b) (λ k. sym (byte_of_image past i m of k)) (λ k. sym (byte_of_buffer past b out_there k)) gs;
           writes_now = same_image;
           unmoved = λ byte. refl;
-          source_there = image_stands i m of;
+          source_there = image_is_live i m of;
           destination_there = buffer_is_resource past b out_there;
           reads_fit = λ g k. rw (size_of_image past i m of) (c.reads_within g k);
           writes_fit = λ g k. rw (size_of_buffer past b out_there) (c.writes_within g k);
@@ -169,8 +169,8 @@ module _ (past : Past) (p : Point) (fit : IsWithin past p) where
               ∙ renamed (byte_of m s) (byte_of n d) (byte_at past s) (byte_at past d) (λ k. sym (byte_of_image past s m of k)) (λ k. sym (byte_of_image past d n to k)) gs;
           writes_now = same_image;
           unmoved = λ byte. refl;
-          source_there = image_stands s m of;
-          destination_there = image_stands d n to;
+          source_there = image_is_live s m of;
+          destination_there = image_is_live d n to;
           reads_fit = λ g k. rw (size_of_image past s m of) (c.reads_within g k);
           writes_fit = λ g k. rw (size_of_image past d n to) (c.writes_within g k);
         }

@@ -19,7 +19,7 @@ module _ (keeps : GrowthKeeps) (t : List Entry) where
   abbrev Closed : Stage → Type 0
   Closed s = (s.parts ≡ 0) × (s.copied ≡ [])
 
-  record Stands (s : Stage) : Type 0 where
+  record Follows (s : Stage) : Type 0 where
     placed : Placed keeps t s
     closed : list_any begins_pass placed.gone ≡ false → Closed s
 
@@ -30,7 +30,7 @@ module _ (keeps : GrowthKeeps) (t : List Entry) where
   no_part : (s : Stage) (k : ℕ) → s.parts ≡ 0 → IsTrue (among k (parts_left s)) → ⊥
   no_part s k none h = let no : IsTrue (among k (filter (λ k. not (among k s.copied)) (below 0))) = subst (λ (n : ℕ). IsTrue (among k (filter (λ k. not (among k s.copied)) (below n)))) none h in cc
 
-  module _ (s : Stage) (i : Stands s) (x : Entry) (xs : List Entry) (left : s.left ≡ x ∷ xs) where
+  module _ (s : Stage) (i : Follows s) (x : Entry) (xs : List Entry) (left : s.left ≡ x ∷ xs) where
     unfoldable after : Placed keeps t (entered s x xs)
     unfolding next_placed
     after = next_placed keeps t s i.placed x xs left
@@ -52,24 +52,24 @@ module _ (keeps : GrowthKeeps) (t : List Entry) where
         go true f = cc
         go false f = cc
 
-  entry_follows : (s : Stage) → Stands s → (x : Entry) (xs : List Entry) → s.left ≡ x ∷ xs → (parts : ℕ) → Stands (with_parts parts x (entered s x xs))
+  entry_follows : (s : Stage) → Follows s → (x : Entry) (xs : List Entry) → s.left ≡ x ∷ xs → (parts : ℕ) → Follows (with_parts parts x (entered s x xs))
   unfolding after
   entry_follows s i (entry.Pass d) xs left parts = record { placed = same_place _ (after s i (entry.Pass d) xs left) s.done parts []; closed = λ none. absurd (itself s i (entry.Pass d) xs left none refl) }
   entry_follows s i (entry.EndPass d kept lost) xs left parts = record { placed = same_place _ (after s i (entry.EndPass d kept lost) xs left) s.done 0 []; closed = λ none. (refl, refl) }
   entry_follows s i x xs left parts = record { placed = after s i x xs left; closed = λ none. i.closed (before s i x xs left none) }
 
-  next_follows : (s : Stage) → Stands s → (step : Step) (e : Stage) → Next s step e → Stands e
+  next_follows : (s : Stage) → Follows s → (step : Step) (e : Stage) → Next s step e → Follows e
   next_follows s i (Apply atoms parts) e next = go s.left refl next
     where
-      go : (left : List Entry) → s.left ≡ left → Applies s atoms parts left e → Stands e
+      go : (left : List Entry) → s.left ≡ left → Applies s atoms parts left e → Follows e
       go [] left next = absurd next
-      go (x ∷ xs) left next = subst (λ (m : Stage). Stands m) (sym next.2) (entry_follows s i x xs left parts)
-  next_follows s i (RunPiece x) e next = subst (λ (m : Stage). Stands m) (sym next.1) (record { placed = same_place s i.placed (x ∷ s.done) s.parts s.copied; closed = i.closed })
-  next_follows s i (CopyPart k) e next = subst (λ (m : Stage). Stands m) (sym next.1)
+      go (x ∷ xs) left next = subst (λ (m : Stage). Follows m) (sym next.2) (entry_follows s i x xs left parts)
+  next_follows s i (RunPiece x) e next = subst (λ (m : Stage). Follows m) (sym next.1) (record { placed = same_place s i.placed (x ∷ s.done) s.parts s.copied; closed = i.closed })
+  next_follows s i (CopyPart k) e next = subst (λ (m : Stage). Follows m) (sym next.1)
       (record { placed = same_place s i.placed s.done s.parts (k ∷ s.copied); closed = λ none. absurd (no_part s k (i.closed none).0 next.0) })
 
-  all_follow : (steps : List Step) (s : Stage) → Stands s → (e : Stage) → Allowed s steps e → Stands e
-  all_follow [] s i e run = subst (λ (m : Stage). Stands m) (sym run) i
+  all_follow : (steps : List Step) (s : Stage) → Follows s → (e : Stage) → Allowed s steps e → Follows e
+  all_follow [] s i e run = subst (λ (m : Stage). Follows m) (sym run) i
   all_follow (step ∷ steps) s i e run = all_follow steps run.0 (next_follows s i step run.0 run.1) e run.2
 
   pub run_follows : (steps : List Step) (e : Stage) → Allowed (start t) steps e → FollowsTrace t e

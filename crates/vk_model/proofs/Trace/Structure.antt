@@ -161,7 +161,7 @@ record Waits (past : Past) (t : SubmittedBatch) : Type 0 where
   pub low : (q : Point) → Contains past q → Quiet q → q.queue ≡ t.queue → Low q t.entry t.batch 0 0
 
 -- the past is ordered, with so many entries, and the batches that wait are in the order of their submission
-record Stands (e : ℕ) (f : Front) : Type 0 where
+record Holds (e : ℕ) (f : Front) : Type 0 where
   pub ordered : IsOrdered f.past
   pub count : length (entries f.past) ≡ e
   pub waits : Each (Waits f.past) f.waiting
@@ -202,7 +202,7 @@ next_is_first past queues (u ∷ us) t e = go (among u.queue queues) (list_all (
     go false false is e rest = apart (rest e)
     go true b is e rest = apart (rest e)
 
-module _ (e : ℕ) (f : Front) (s : Stands e f) (t : SubmittedBatch) (next : next_batch f.past [] f.waiting ≡ Some t) where
+module _ (e : ℕ) (f : Front) (s : Holds e f) (t : SubmittedBatch) (next : next_batch f.past [] f.waiting ≡ Some t) where
   first : IsFirstOfQueue [] t f.waiting
   first = next_is_first f.past [] f.waiting t next
 
@@ -238,24 +238,24 @@ module _ (e : ℕ) (f : Front) (s : Stands e f) (t : SubmittedBatch) (next : nex
             (old_or_new (On t.queue) f.past (started t f.past) grown q cq);
       }
 
-  started_stands : Stands e (start_batch (Some t) f)
-  started_stands = record {
+  started_holds : Holds e (start_batch (Some t) f)
+  started_holds = record {
     ordered = reached.ordered;
     count = ap length (same_entries f.past (started t f.past) (grows_too (On t.queue) Quiet (λ p h. h.0) f.past (started t f.past) grown)) ∙ s.count;
     waits = each_from (Waits (started t f.past)) (filter (λ v. not (same_batch t v)) f.waiting) still_waits;
     lined = pairs_filter IsSooner (λ v. not (same_batch t v)) f.waiting s.lined;
   }
 
-next_stands : (e : ℕ) (f : Front) → Stands e f → Stands e (start_batch (next_batch f.past [] f.waiting) f)
-next_stands e f s = go (next_batch f.past [] f.waiting) refl
+next_holds : (e : ℕ) (f : Front) → Holds e f → Holds e (start_batch (next_batch f.past [] f.waiting) f)
+next_holds e f s = go (next_batch f.past [] f.waiting) refl
   where
-    go : (o : Option SubmittedBatch) → next_batch f.past [] f.waiting ≡ o → Stands e (start_batch o f)
+    go : (o : Option SubmittedBatch) → next_batch f.past [] f.waiting ≡ o → Holds e (start_batch o f)
     go None is = s
-    go (Some t) is = started_stands e f s t is
+    go (Some t) is = started_holds e f s t is
 
-settled_stands : (e n : ℕ) (f : Front) → Stands e f → Stands e (settled n f)
-settled_stands e zero f s = s
-settled_stands e (suc n) f s = settled_stands e n (start_batch (next_batch f.past [] f.waiting) f) (next_stands e f s)
+settled_holds : (e n : ℕ) (f : Front) → Holds e f → Holds e (settled n f)
+settled_holds e zero f s = s
+settled_holds e (suc n) f s = settled_holds e n (start_batch (next_batch f.past [] f.waiting) f) (next_holds e f s)
 
 -- ---- entries that come
 
@@ -295,7 +295,7 @@ all_of_entry : (past : Past) (e q k : ℕ) (bs : List Batch) → Each (λ u. u.e
 all_of_entry past e q k [] = tt
 all_of_entry past e q k (b ∷ bs) = (refl, all_of_entry past e q (k + 1) bs)
 
-module _ (e : ℕ) (f : Front) (s : Stands e f) where
+module _ (e : ℕ) (f : Front) (s : Holds e f) where
   old_waits : (x : Entry) → Each (Waits (host e x ∷ f.past)) f.waiting
   old_waits x = each_map (Waits f.past) (Waits (host e x ∷ f.past)) f.waiting (λ u w. record {
     batches = w.batches;
@@ -312,7 +312,7 @@ module _ (e : ℕ) (f : Front) (s : Stands e f) where
       (λ u w. let lt : u.entry < length (entries f.past) = entry_below f.past s.ordered (host u.entry (entry.Submit u.queue w.batches)) w.submitted in
       each_map (λ v. v.entry ≡ e) (IsSooner u) (batches_from f.past e q 0 bs) (λ v is. inl (let size = s.count in omega (arith, lt, size, is))) (all_of_entry f.past e q 0 bs)) s.waits
 
-  with_entry : (x : Entry) → Stands (e + 1) (record { past = host e x ∷ f.past; waiting = f.waiting ++ batches_of f.past e x })
+  with_entry : (x : Entry) → Holds (e + 1) (record { past = host e x ∷ f.past; waiting = f.waiting ++ batches_of f.past e x })
   with_entry x = record {
     ordered = (ap (λ (n : ℕ). host n x) (sym s.count), s.ordered);
     count = let size = s.count in omega (arith, size);
@@ -328,19 +328,19 @@ module _ (e : ℕ) (f : Front) (s : Stands e f) where
       line (entry.Submit q bs) = pairs_append IsSooner f.waiting (batches_from f.past e q 0 bs) s.lined (new_lined f.past e q 0 bs) (old_sooner q bs)
       line _ = pairs_append IsSooner f.waiting [] s.lined tt (each_from (λ u. Each (IsSooner u) []) f.waiting (λ u c. tt))
 
-  after_stands : (x : Entry) → Stands (e + 1) (after_entry e x f)
-  after_stands x =
+  after_holds : (x : Entry) → Holds (e + 1) (after_entry e x f)
+  after_holds x =
       let waiting = f.waiting ++ batches_of f.past e x in
-      settled_stands (e + 1) (length waiting) (record { past = host e x ∷ f.past; waiting = waiting }) (with_entry x)
+      settled_holds (e + 1) (length waiting) (record { past = host e x ∷ f.past; waiting = waiting }) (with_entry x)
 
-order_stands : (e : ℕ) (f : Front) (xs : List Entry) → Stands e f → Stands (e + length xs) (order_from e f xs)
-order_stands e f [] s = subst (λ (n : ℕ). Stands n f) (let same : e ≡ e + 0 = omega arith in same) s
-order_stands e f (x ∷ xs) s =
-    subst (λ (n : ℕ). Stands n (order_from (e + 1) (after_entry e x f) xs)) (let same : (e + 1) + length xs ≡ e + suc (length xs) = omega arith in same)
-    (order_stands (e + 1) (after_entry e x f) xs (after_stands e f s x))
+order_holds : (e : ℕ) (f : Front) (xs : List Entry) → Holds e f → Holds (e + length xs) (order_from e f xs)
+order_holds e f [] s = subst (λ (n : ℕ). Holds n f) (let same : e ≡ e + 0 = omega arith in same) s
+order_holds e f (x ∷ xs) s =
+    subst (λ (n : ℕ). Holds n (order_from (e + 1) (after_entry e x f) xs)) (let same : (e + 1) + length xs ≡ e + suc (length xs) = omega arith in same)
+    (order_holds (e + 1) (after_entry e x f) xs (after_holds e f s x))
 
 pub order_ordered : (t : List Entry) → IsOrdered (order t)
-order_ordered t = (order_stands 0 (record { past = []; waiting = [] }) t (record { ordered = tt; count = refl; waits = tt; lined = tt })).ordered
+order_ordered t = (order_holds 0 (record { past = []; waiting = [] }) t (record { ordered = tt; count = refl; waits = tt; lined = tt })).ordered
 
 -- ---- the entries of a trace
 

@@ -41,7 +41,7 @@ use Rattle.vk_touches.proofs.Touching.TransitionBytes.{moved, moved_twice, pair_
 
 -- ---- in a list
 
--- what stands further to the front
+-- what is further to the front
 in_front : {A : Type 0} (f g b c : List A) (d e : A) → f ++ d ∷ b ≡ g ++ e ∷ c → length f < length g → Contains g d
 in_front [] [] b c d e same lt = absurd (omega arith)
 in_front [] (y ∷ g) b c d e same lt = let first : y ≡ d = cc in subst (λ x. Contains (y ∷ g) x) first (contains-head y g)
