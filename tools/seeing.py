@@ -53,8 +53,8 @@ def shows(reading, number, writer, reader, access, buffer, byte):
             return False
         needs = access == "read" and reading.is_cached(buffer)
         return not needs or is_between(reading, number, reader, "invalidate", buffer, byte)
-    shown = element or node.kind == "wait" or reading.nodes[writer].on_host and node.is_submit
-    return bool(shown and reading.edges[reader] >> number & 1)
+    is_visible = element or node.kind == "wait" or reading.nodes[writer].on_host and node.is_submit
+    return bool(is_visible and reading.edges[reader] >> number & 1)
 
 
 def is_between(reading, first, second, name, buffer, byte):

@@ -42,16 +42,16 @@ abbrev pub missing_part : Links → List ℕ
 missing_part l = codes "missing: " ++ missing_text l.missing
 
 -- What flushes the write, and what makes it available (profile).
-abbrev pub sent_part : Links → List ℕ
-sent_part l = node_text (codes "; flushed by ") l.flush ++ node_text (codes "; made available by ") l.available
+abbrev pub available_part : Links → List ℕ
+available_part l = node_text (codes "; flushed by ") l.flush ++ node_text (codes "; made available by ") l.available
 
 -- What makes it visible to the host, and what does so in time (profile).
-abbrev pub shown_part : Links → List ℕ
-shown_part l = node_text (codes "; made visible to the host by ") l.visible ++ node_text (codes "; in time by ") l.awaited
+abbrev pub visible_part : Links → List ℕ
+visible_part l = node_text (codes "; made visible to the host by ") l.visible ++ node_text (codes "; in time by ") l.awaited
 
 -- What is said of links (profile).
 abbrev pub links_text : Links → List ℕ
-links_text l = missing_part l ++ (sent_part l ++ shown_part l)
+links_text l = missing_part l ++ (available_part l ++ visible_part l)
 
 -- The line with them, where they are reported (profile).
 abbrev pub links_line : Option Links → List ℕ

@@ -59,21 +59,21 @@ fn missing_name(missing: Missing) -> &'static str
 }
 
 fn push_nodes(out: &mut String, links: &Links<'_>) -> Result<(), AllocError>
-    ensures { OnOk result (string_bytes out.new ≡ string_bytes out.old ++ (text.sent_part links.now ++ text.shown_part links.now)) }
+    ensures { OnOk result (string_bytes out.new ≡ string_bytes out.old ++ (text.available_part links.now ++ text.visible_part links.now)) }
 {
-    push_sent(out, links)?;
-    push_shown(out, links)
+    push_available(out, links)?;
+    push_visible(out, links)
 }
 
-fn push_sent(out: &mut String, links: &Links<'_>) -> Result<(), AllocError>
-    ensures { OnOk result (string_bytes out.new ≡ string_bytes out.old ++ text.sent_part links.now) }
+fn push_available(out: &mut String, links: &Links<'_>) -> Result<(), AllocError>
+    ensures { OnOk result (string_bytes out.new ≡ string_bytes out.old ++ text.available_part links.now) }
 {
     push_node(out, "; flushed by ", &links.flush)?;
     push_node(out, "; made available by ", &links.available)
 }
 
-fn push_shown(out: &mut String, links: &Links<'_>) -> Result<(), AllocError>
-    ensures { OnOk result (string_bytes out.new ≡ string_bytes out.old ++ text.shown_part links.now) }
+fn push_visible(out: &mut String, links: &Links<'_>) -> Result<(), AllocError>
+    ensures { OnOk result (string_bytes out.new ≡ string_bytes out.old ++ text.visible_part links.now) }
 {
     push_node(out, "; made visible to the host by ", &links.visible)?;
     push_node(out, "; in time by ", &links.awaited)

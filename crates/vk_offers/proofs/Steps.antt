@@ -30,7 +30,7 @@ use Rattle.vk_offers.proofs.Offering.{met}
 use Rattle.vk_offers.proofs.Growing.{get_some, others_stay, none_run, with_next, next_started, others_started, more_started, may_come, is_false, all_there}
 use Rattle.vk_offers.proofs.Finishing.{piece_finished}
 
--- ---- a sight's counts
+-- ---- a new node's counts
 
 pub counts_of : (ns : List Node) (n : Node) (counts : List ℕ) → BeforeLeadsOn → IsNumbered (n ∷ ns)
     → ((m : Node) (q : ℕ) → q < 4 → Contains ns m → line_of m ≡ Some (OfCommands q) → before (n ∷ ns) m n ≡ nat_lt (place ns (OfCommands q) m.number) (slice_index counts q))

@@ -253,12 +253,12 @@ module _ (ns : List Node) (numbers : IsNumbered ns) where
           go (Depends r e) i v on through = no i
 
       -- what makes a write of the device available doesn't look at the cache
-      same_sent : (c d : Byte → Bool) (p : Node) (x : Act) → is_host x ≡ false → IsTrue (available_by c ns w x b p) → IsTrue (available_by d ns w x b p)
-      same_sent c d p (Runs y) i h = h
-      same_sent c d p (Depends r e) i h = h
-      same_sent c d p (Hosts y) i h = no (sym i)
-      same_sent c d p (Waits s) i h = h
-      same_sent c d p (Signals s) i h = h
+      stays_available : (c d : Byte → Bool) (p : Node) (x : Act) → is_host x ≡ false → IsTrue (available_by c ns w x b p) → IsTrue (available_by d ns w x b p)
+      stays_available c d p (Runs y) i h = h
+      stays_available c d p (Depends r e) i h = h
+      stays_available c d p (Hosts y) i h = no (sym i)
+      stays_available c d p (Waits s) i h = h
+      stays_available c d p (Signals s) i h = h
 
       pub invalidated_seen : seen cached ns w a Read b ≡ seen uncached ns w f Read b
       invalidated_seen = bool_same _ _
@@ -269,7 +269,7 @@ module _ (ns : List Node) (numbers : IsNumbered ns) where
             q = s.q;
             has_p = s.has_p;
             has_q = s.has_q;
-            available = same_sent cached uncached s.p w.act device s.available;
+            available = stays_available cached uncached s.p w.act device s.available;
             between = s.between;
             visible = r.0;
             reached = or_right (same_node s.q f) (before ns s.q f) r.1;
@@ -281,7 +281,7 @@ module _ (ns : List Node) (numbers : IsNumbered ns) where
             q = s.q;
             has_p = s.has_p;
             has_q = s.has_q;
-            available = same_sent uncached cached s.p w.act device s.available;
+            available = stays_available uncached cached s.p w.act device s.available;
             between = s.between;
             visible = r.0;
             reached = or_right (same_node s.q a) (before ns s.q a) r.1;

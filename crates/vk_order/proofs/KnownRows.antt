@@ -140,21 +140,21 @@ module _ (ns : List Node) (n : Node) (numbers : IsNumbered (n ∷ ns)) where
   made_old c p (Signals s) hp = refl
 
   -- its own writes are available nowhere yet
-  pub unsent : (k : Node) → Contains (n ∷ ns) k → IsAvailable (n ∷ ns) n k → ⊥
-  unsent k ck (p, cp, s, way) =
+  pub unavailable : (k : Node) → Contains (n ∷ ns) k → IsAvailable (n ∷ ns) n k → ⊥
+  unavailable k ck (p, cp, s, way) =
       let up = made_later n p n.act (contains-head n ns) cp s in
       let less = number_below (n ∷ ns) numbers p cp in
       let at = new in omega arith
 
   pub unheard : (k : Node) → Contains (n ∷ ns) k → IsKnown (n ∷ ns) n k → ⊥
-  unheard k ck (inl s) = unsent k ck s
+  unheard k ck (inl s) = unavailable k ck s
   unheard k ck (inr (e, h)) =
       let up = forward (n ∷ ns) n k (path_of_before (n ∷ ns) numbers n k (contains-head n ns) ck h) in
       let less = number_below (n ∷ ns) numbers k ck in
       let at = new in omega arith
 
   pub unknown : (g : Knowledge) (k : Node) → Contains (n ∷ ns) k → Knows g (n ∷ ns) n k → ⊥
-  unknown Available k ck s = unsent k ck s
+  unknown Available k ck s = unavailable k ck s
   unknown (Visible a) k ck s = unheard k ck s.1
   unknown (OnHost a) k ck (q, cq, r, way, s) = unheard q cq s
 

@@ -94,10 +94,10 @@ module _ (ns : List Node) (numbers : IsNumbered ns) (cached : Byte → Bool) (w 
 
   -- and what its marks reach, it reaches
   pub leave : (m q : Node) → Contains ns q → IsMark cached ns b w m → Reaches ns m q → (p : Node) × Contains ns p × IsTrue (available_by cached ns w w.act b p) × IsTrue (same_node p q || before ns p q)
-  leave m q hq (inl same) (inl (inl known)) = from_sent (subst (λ (x : Node). IsAvailable ns x q) same known)
+  leave m q hq (inl same) (inl (inl known)) = from_available (subst (λ (x : Node). IsAvailable ns x q) same known)
     where
-      from_sent : IsAvailable ns w q → (p : Node) × Contains ns p × IsTrue (available_by cached ns w w.act b p) × IsTrue (same_node p q || before ns p q)
-      from_sent (p, hp, made, way) = (
+      from_available : IsAvailable ns w q → (p : Node) × Contains ns p × IsTrue (available_by cached ns w w.act b p) × IsTrue (same_node p q || before ns p q)
+      from_available (p, hp, made, way) = (
         p,
         hp,
         made_each cached ns w p b w.act is_write.uncached made,

@@ -17,7 +17,7 @@ use Rattle.vk_order.specs.declared.tallies.LineTally.{LineTally}
 use Rattle.vk_order.specs.PointViews.{act_of}
 use Rattle.vk_order.specs.Lines.{line_of}
 use Rattle.vk_order.specs.Inner.Clocks.{on_line, place}
-use Rattle.vk_order.specs.Inner.Counts.{zero_counts, count_in, counts_on, known_on, shows_of, made_visible_by, no_shows, hidden, with_clock, with_available, AreSent, AreVisible, AreCounted}
+use Rattle.vk_order.specs.Inner.Counts.{zero_counts, count_in, counts_on, known_on, shows_of, made_visible_by, no_shows, hidden, with_clock, with_available, AreAvailable, AreVisible, AreCounted}
 use Rattle.vk_order.specs.Inner.Fronts.{clock_in, row_in, IsOwnFront}
 use Rattle.vk_order.specs.Inner.Kept.{clock_at, IsOwn}
 use Rattle.vk_order.specs.Inner.Leads.{is_of_host, is_of_barriers}
@@ -80,13 +80,13 @@ all_visible ts s before own k ends long done rest = record { counts = λ l. go l
         let r = tally_at ts l i e in
         each i r.0 r.1 ∙ ap (λ (m : Line). made_visible_by s m (slice_index_or before i zero_counts)) r.2
 
-shown_not : (l : Line) (c : Counts) → made_visible_by no_shows l c ≡ hidden c
-shown_not OfHost c = refl
-shown_not (OfCommands q) c = refl
-shown_not (OfSignals q) c = refl
-shown_not (OfElements q t h) c = refl
-shown_not (OfSets q) c = refl
-shown_not (OfWaits q t h a) c = refl
+none_made_visible : (l : Line) (c : Counts) → made_visible_by no_shows l c ≡ hidden c
+none_made_visible OfHost c = refl
+none_made_visible (OfCommands q) c = refl
+none_made_visible (OfSignals q) c = refl
+none_made_visible (OfElements q t h) c = refl
+none_made_visible (OfSets q) c = refl
+none_made_visible (OfWaits q t h a) c = refl
 
 -- an act that makes nothing visible hides all
 pub all_hidden : (ts : List LineTally) (s : Shows) (before own : List Counts) → s ≡ no_shows → length own ≡ length before
@@ -94,8 +94,8 @@ pub all_hidden : (ts : List LineTally) (s : Shows) (before own : List Counts) �
 all_hidden ts s before own nothing long each = subst (λ (x : Shows). AreVisible (lines_of ts) x before own) (sym nothing) (record { counts = λ l. go l (index_in (lines_of ts) l); long = long })
   where
     go : (l : Line) (o : Option ℕ) → option_map_or (λ i. slice_index_or own i zero_counts) o zero_counts ≡ made_visible_by no_shows l (option_map_or (λ i. slice_index_or before i zero_counts) o zero_counts)
-    go l None = sym (shown_not l zero_counts)
-    go l (Some i) = each i ∙ sym (shown_not l (slice_index_or before i zero_counts))
+    go l None = sym (none_made_visible l zero_counts)
+    go l (Some i) = each i ∙ sym (none_made_visible l (slice_index_or before i zero_counts))
 
 -- ---- the node itself
 
@@ -152,8 +152,8 @@ visible_on_host : (k : Access) (l : Line) (a : Act) (c : Counts) → count_in (O
 visible_on_host Read l a c = refl
 visible_on_host Write l a c = refl
 
-module _ (ns : List Node) (ls : List Line) (n : Node) (row : Row) (known own : Front) (coming : IsComing ns ls n row known) (sent made_visible : List Counts)
-    (are_sent : AreSent ns ls row.point.queue (act_of row.act) known.counts.items sent) (are_visible : AreVisible ls (shows_of (act_of row.act)) sent made_visible) (are_counted : AreCounted ns ls n made_visible own.counts.items) where
+module _ (ns : List Node) (ls : List Line) (n : Node) (row : Row) (known own : Front) (coming : IsComing ns ls n row known) (made_available made_visible : List Counts)
+    (are_available : AreAvailable ns ls row.point.queue (act_of row.act) known.counts.items made_available) (are_visible : AreVisible ls (shows_of (act_of row.act)) made_available made_visible) (are_counted : AreCounted ns ls n made_visible own.counts.items) where
   abbrev act : Act
   act = act_of row.act
 
@@ -161,21 +161,21 @@ module _ (ns : List Node) (ls : List Line) (n : Node) (row : Row) (known own : F
   first l = counts_on ls known.counts.items l
 
   abbrev second : Line → Counts
-  second l = counts_on ls sent l
+  second l = counts_on ls made_available l
 
   short : (f : Counts → ℕ) → length (map f own.counts.items) ≤ length ls
   short f = let a = are_counted.clock.short in let b = length-map own.counts.items (λ c. c.clock) in let e = length-map own.counts.items f in omega arith
 
-  -- what is sent changes what is available alone
+  -- what is made available changes what is available alone
   same_clock : (l : Line) → (second l).clock ≡ (first l).clock
-  same_clock l = ap (λ (c : Counts). c.clock) (are_sent.counts l) ∙ split (makes_line_available row.point.queue act l)
+  same_clock l = ap (λ (c : Counts). c.clock) (are_available.counts l) ∙ split (makes_line_available row.point.queue act l)
     where
       split : (b : Bool) → (if b then with_available (first l) (place ns l (length ns)) else first l).clock ≡ (first l).clock
       split true = refl
       split false = refl
 
   same_on_host : (k : Access) (l : Line) → count_in (OnHost k) (second l) ≡ count_in (OnHost k) (first l)
-  same_on_host k l = ap (count_in (OnHost k)) (are_sent.counts l) ∙ split k (makes_line_available row.point.queue act l)
+  same_on_host k l = ap (count_in (OnHost k)) (are_available.counts l) ∙ split k (makes_line_available row.point.queue act l)
     where
       split : (k : Access) (b : Bool) → count_in (OnHost k) (if b then with_available (first l) (place ns l (length ns)) else first l) ≡ count_in (OnHost k) (first l)
       split Read true = refl
@@ -203,7 +203,7 @@ module _ (ns : List Node) (ls : List Line) (n : Node) (row : Row) (known own : F
   available : IsOwnAvailable ns ls row.point.queue act (row_in Available known) (row_in Available own)
   available = record {
     counts = λ l.
-        row_then Available l ∙ ap (λ (c : Counts). c.available) (are_sent.counts l) ∙ split l (makes_line_available row.point.queue act l)
+        row_then Available l ∙ ap (λ (c : Counts). c.available) (are_available.counts l) ∙ split l (makes_line_available row.point.queue act l)
         ∙ ap (λ (m : ℕ). if makes_line_available row.point.queue act l then place ns l (length ns) else m) (sym (at_line (count_in Available) refl ls known.counts.items l));
     short = short (count_in Available);
   }

@@ -17,7 +17,7 @@ use Rattle.vk_order.specs.declared.tallies.LineTally.{LineTally}
 use Rattle.vk_order.specs.PointViews.{act_of}
 use Rattle.vk_order.specs.Lines.{class_of, class_on}
 use Rattle.vk_order.specs.Inner.Clocks.{same_line, on_line, place, IsClock}
-use Rattle.vk_order.specs.Inner.Counts.{zero_counts, counts_on, with_available, AreSent}
+use Rattle.vk_order.specs.Inner.Counts.{zero_counts, counts_on, with_available, AreAvailable}
 use Rattle.vk_order.specs.Inner.Kept.{clock_at, IsOwn}
 use Rattle.vk_order.specs.Inner.Leads.{is_of_host, is_of_barriers}
 use Rattle.vk_order.specs.Inner.Places.{index_in}
@@ -72,10 +72,10 @@ count_there ns ts tallied l i t at here =
 -- ---- what is available after it
 
 module _ (ns : List Node) (ts : List LineTally) (tallied : IsTallied ns ts) (queue : ℕ) (act : Act) (row own : List Counts) where
-  -- where all nodes of a line are sent
+  -- where all nodes of a line are made available
   pub available_counted : (line : Line) (at count : ℕ) (t : LineTally) → ((l : Line) → same_line l line ≡ makes_line_available queue act l) → index_in (lines_of ts) line ≡ Some at → slice_get ts at ≡ Some t → count ≡ t.count
       → ((i : ℕ) → slice_index_or own i zero_counts ≡ (if i == at then with_available (slice_index_or row at zero_counts) count else slice_index_or row i zero_counts))
-      → length own ≡ max (length row) (at + 1) → length row ≤ length ts → AreSent ns (lines_of ts) queue act row own
+      → length own ≡ max (length row) (at + 1) → length row ≤ length ts → AreAvailable ns (lines_of ts) queue act row own
   available_counted line at count t makes found here is counts len short = record {
     counts = λ l.
         go l (same_line l line) refl (index_in (lines_of ts) l) refl
@@ -104,7 +104,7 @@ module _ (ns : List Node) (ts : List LineTally) (tallied : IsTallied ns ts) (que
           no (sym e ∙ ap (same_line l) (sym same) ∙ line_itself l))) refl
 
   -- where the line has no node yet
-  pub available_none : (line : Line) → ((l : Line) → same_line l line ≡ makes_line_available queue act l) → index_in (lines_of ts) line ≡ None → own ≡ row → length row ≤ length ts → AreSent ns (lines_of ts) queue act row own
+  pub available_none : (line : Line) → ((l : Line) → same_line l line ≡ makes_line_available queue act l) → index_in (lines_of ts) line ≡ None → own ≡ row → length row ≤ length ts → AreAvailable ns (lines_of ts) queue act row own
   available_none line makes none same short = record {
     counts = λ l.
         ap (λ (r : List Counts). counts_on (lines_of ts) r l) same ∙ go l (same_line l line) refl
@@ -122,8 +122,8 @@ module _ (ns : List Node) (ts : List LineTally) (tallied : IsTallied ns ts) (que
           nothing (index_in (lines_of ts) l) (place ns l (length ns)) off (no_place ns ts tallied l off (length ns))
       go l false e = refl
 
-  -- where nothing is sent
-  pub available_as_well : ((l : Line) → false ≡ makes_line_available queue act l) → own ≡ row → length row ≤ length ts → AreSent ns (lines_of ts) queue act row own
+  -- where nothing is made available
+  pub available_as_well : ((l : Line) → false ≡ makes_line_available queue act l) → own ≡ row → length row ≤ length ts → AreAvailable ns (lines_of ts) queue act row own
   available_as_well makes same short = record {
     counts = λ l.
         ap (λ (r : List Counts). counts_on (lines_of ts) r l) same
@@ -131,35 +131,35 @@ module _ (ns : List Node) (ts : List LineTally) (tallied : IsTallied ns ts) (que
     short = let e = lines_length ts in let f = ap length same in omega arith;
   }
 
--- ---- which line is sent
+-- ---- which line is made available
 
-pub host_sent : (q : ℕ) (a : Act) → is_submit a ≡ true → (l : Line) → same_line l OfHost ≡ makes_line_available q a l
-host_sent q (Hosts x) e OfHost = sym e
-host_sent q (Hosts x) e (OfCommands r) = refl
-host_sent q (Hosts x) e (OfSignals r) = refl
-host_sent q (Hosts x) e (OfElements r t h) = refl
-host_sent q (Hosts x) e (OfSets r) = refl
-host_sent q (Hosts x) e (OfWaits r t h b) = refl
-host_sent q (Waits s) e l = no e
-host_sent q (Signals s) e l = no e
-host_sent q (Runs c) e l = no e
-host_sent q (Depends r x) e l = no e
+pub host_available : (q : ℕ) (a : Act) → is_submit a ≡ true → (l : Line) → same_line l OfHost ≡ makes_line_available q a l
+host_available q (Hosts x) e OfHost = sym e
+host_available q (Hosts x) e (OfCommands r) = refl
+host_available q (Hosts x) e (OfSignals r) = refl
+host_available q (Hosts x) e (OfElements r t h) = refl
+host_available q (Hosts x) e (OfSets r) = refl
+host_available q (Hosts x) e (OfWaits r t h b) = refl
+host_available q (Waits s) e l = no e
+host_available q (Signals s) e l = no e
+host_available q (Runs c) e l = no e
+host_available q (Depends r x) e l = no e
 
-pub commands_sent : (q : ℕ) (a : Act) → is_submit a ≡ false → makes_queue_available a ≡ true → (l : Line) → same_line l (OfCommands q) ≡ makes_line_available q a l
-commands_sent q a s e OfHost = sym s
-commands_sent q a s e (OfCommands r) = rw e refl
-commands_sent q a s e (OfSignals r) = refl
-commands_sent q a s e (OfElements r t h) = refl
-commands_sent q a s e (OfSets r) = refl
-commands_sent q a s e (OfWaits r t h b) = refl
+pub commands_available : (q : ℕ) (a : Act) → is_submit a ≡ false → makes_queue_available a ≡ true → (l : Line) → same_line l (OfCommands q) ≡ makes_line_available q a l
+commands_available q a s e OfHost = sym s
+commands_available q a s e (OfCommands r) = rw e refl
+commands_available q a s e (OfSignals r) = refl
+commands_available q a s e (OfElements r t h) = refl
+commands_available q a s e (OfSets r) = refl
+commands_available q a s e (OfWaits r t h b) = refl
 
-pub none_sent : (q : ℕ) (a : Act) → is_submit a ≡ false → makes_queue_available a ≡ false → (l : Line) → false ≡ makes_line_available q a l
-none_sent q a s e OfHost = sym s
-none_sent q a s e (OfCommands r) = rw e refl
-none_sent q a s e (OfSignals r) = refl
-none_sent q a s e (OfElements r t h) = refl
-none_sent q a s e (OfSets r) = refl
-none_sent q a s e (OfWaits r t h b) = refl
+pub none_available : (q : ℕ) (a : Act) → is_submit a ≡ false → makes_queue_available a ≡ false → (l : Line) → false ≡ makes_line_available q a l
+none_available q a s e OfHost = sym s
+none_available q a s e (OfCommands r) = rw e refl
+none_available q a s e (OfSignals r) = refl
+none_available q a s e (OfElements r t h) = refl
+none_available q a s e (OfSets r) = refl
+none_available q a s e (OfWaits r t h b) = refl
 
 -- ---- what is known at it
 

@@ -32,7 +32,7 @@ use Rattle.vk_order.proofs.ClockLemmas.{line_same, line_itself, place-grows, pla
 use Rattle.std.proofs.lemmas.List.{take_all, length-drop}
 use Rattle.std.proofs.lemmas.Option.{slice_get_within, slice_get-get_or}
 use Rattle.vk_order.proofs.KeptLemmas.{push_cases}
-use Rattle.vk_order.proofs.OwnLemmas.{none_sent}
+use Rattle.vk_order.proofs.OwnLemmas.{none_available}
 use Rattle.vk_order.proofs.KnownRows.{takes, command_takes, available_row, known_row, at_old, at_new, unheard, heard_old, heard_new}
 
 -- ---- which commands lead to a part
@@ -154,7 +154,7 @@ part_new ns n ls x id clock row numbers act named number queue line at earlier m
     let of = part_element x.element id named in
     let quiet : makes_queue_available n.act ≡ false = ap makes_queue_available act ∙ of.1 in
     let device : is_submit n.act ≡ false = ap is_submit act in
-    let available : IsRow Available (n ∷ ns) n (clock_at ls row) = available_row ns n numbers (clock_at ls row) (clock_at ls row) sent.join (λ l. ap (λ (t : Bool). if t then place ns l (length ns) else clock_at ls row l) (none_sent n.point.queue n.act device quiet l)) in
+    let available : IsRow Available (n ∷ ns) n (clock_at ls row) = available_row ns n numbers (clock_at ls row) (clock_at ls row) sent.join (λ l. ap (λ (t : Bool). if t then place ns l (length ns) else clock_at ls row l) (none_available n.point.queue n.act device quiet l)) in
     record {
       there = contains-head n ns;
       act = act;

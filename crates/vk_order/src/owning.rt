@@ -5,7 +5,7 @@ ghost use Rattle.vk_order.specs.declared.lines.Line.{Line as AnyLine};
 ghost use Rattle.vk_order.specs.PointViews.{act_of};
 ghost use Rattle.vk_order.specs.Lines.{class_of, class_on};
 ghost use Rattle.vk_order.specs.Inner.Clocks.{same_line, place};
-ghost use Rattle.vk_order.specs.Inner.Counts.{shows_of, no_shows, AreSent, AreVisible, AreCounted};
+ghost use Rattle.vk_order.specs.Inner.Counts.{shows_of, no_shows, AreAvailable, AreVisible, AreCounted};
 ghost use Rattle.vk_order.specs.Inner.Places.{index_in};
 ghost use Rattle.vk_order.specs.Inner.Rows.{makes_line_available, IsMerged};
 ghost use Rattle.vk_order.specs.Inner.Fronts.{IsOwnFront};
@@ -62,7 +62,7 @@ fn count_available(
     counts: &mut Vec<Counts>,
 ) -> Result<(), AllocError>
     ensures { OnOk result ((ns : List Node) → IsTallied ns tallies.now → length counts.old.items ≤ length tallies.now
-        → AreSent ns (lines_of tallies.now) row.now.point.queue (act_of row.now.act) counts.old.items counts.new.items) }
+        → AreAvailable ns (lines_of tallies.now) row.now.point.queue (act_of row.now.act) counts.old.items counts.new.items) }
 {
     let Some(line) = available_line(row) else {
         return Ok(());

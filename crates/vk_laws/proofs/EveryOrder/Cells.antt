@@ -81,11 +81,11 @@ module _ (x : ℕ) (cell : Cell) (owner : Option ℕ) (made_available : Type 0) 
   -- a barrier, signal, wait or submit
   pub event_ok : (available' : Type 0) (visible' : ℕ → Type 0) → (available' → made_available ⊎ ((a u : ℕ) → owner ≡ Some a → cell.held a ≡ Some (Dirty u) → ⊥)) → ((a : ℕ) → visible' a → made_visible a ⊎ ((u : ℕ) → cell.held a ≡ Some (Clean u) → ⊥))
       → ((a : ℕ) → visible' a → (owner ≡ Some a) ⊎ available') → CellOk x cell owner available' visible'
-  event_ok available' visible' by_free by_show is_shown' = record {
+  event_ok available' visible' by_free by_show is_visible' = record {
     dirty = λ a u e. let d = ok.dirty a u e in (d.0, d.1, λ f. ⊎_elim (λ old. d.2 old) (λ none. none a u d.1 e) (by_free f));
     home = ok.home;
     clean = λ a u s e. ⊎_elim (λ old. ok.clean a u old e) (λ none. absurd (none u e)) (by_show a s);
-    is_visible = is_shown';
+    is_visible = is_visible';
   }
 
 pub first_ok : (cell : Cell) → ((a : ℕ) → cell.held a ≡ None) → CellOk cell.region cell None ⊤ (λ a. ⊤)

@@ -85,7 +85,7 @@ pub record AreJoinedCounts (first second both : List Counts) : Type 0 where
   pub long : length both ≡ max (length first) (length second)
 
 -- What an act on a queue, which comes next, makes available is counted too.
-pub record AreSent (ns : List Node) (ls : List Line) (queue : ℕ) (act : Act) (before own : List Counts) : Type 0 where
+pub record AreAvailable (ns : List Node) (ls : List Line) (queue : ℕ) (act : Act) (before own : List Counts) : Type 0 where
   pub counts : (l : Line) → counts_on ls own l ≡ (if makes_line_available queue act l then with_available (counts_on ls before l) (place ns l (length ns)) else counts_on ls before l)
   pub short : length own ≤ length ls
 

@@ -8,7 +8,7 @@ use Rattle.vk_order.specs.declared.tallies.LineTally.{LineTally}
 use Rattle.vk_order.specs.PointViews.{act_of}
 use Rattle.vk_order.specs.Lines.{class_of, class_on}
 use Rattle.vk_order.specs.Inner.Clocks.{place}
-use Rattle.vk_order.specs.Inner.Counts.{shows_of, AreSent, AreVisible}
+use Rattle.vk_order.specs.Inner.Counts.{shows_of, AreAvailable, AreVisible}
 use Rattle.vk_order.specs.Inner.Places.{index_in}
 use Rattle.vk_order.specs.Inner.Tallies.{lines_of}
 use Rattle.vk_order.proofs.OwnLemmas.{lines_length, count_there, class_coming, index_low}
@@ -32,8 +32,8 @@ returns c = λ ns n coming tallied.
     let count : t.count ≡ place ns line n.number = total ∙ ap (place ns line) (sym coming.numbers.0) in
     let low : t.count + 1 < 2 ^ 64 = (let le = place_within ns line (length ns) in let few = coming.few in omega arith) in
     let short : length known.counts.items ≤ length ls = (let le = coming.front.clock.short in let e = length-map known.counts.items (λ d. d.clock) in omega arith) in
-    let sent : AreSent ns ls row.point.queue (act_of row.act) known.counts.items c.count_available.new.counts.items = c.in_ok-count_available.ensures ns tallied (let e = lines_length ts in omega arith) in
+    let made_available : AreAvailable ns ls row.point.queue (act_of row.act) known.counts.items c.count_available.new.counts.items = c.in_ok-count_available.ensures ns tallied (let e = lines_length ts in omega arith) in
     let made_visible : AreVisible ls (shows_of (act_of row.act)) c.count_available.new.counts.items c.show.new.counts.items = c.show.ensures in
     let own : Front = record { counts = c.count_own.new.counts } in
-    own_made ns ls n row known own coming c.count_available.new.counts.items c.show.new.counts.items sent made_visible
-    (c.in_ok-count_own.ensures ns ls n (class ∙ sym own_line) (ap (index_in ls) own_line ∙ c.requires) (count ∙ ap (λ (l : Line). place ns l n.number) (sym own_line)) low (let e = made_visible.long in let le = sent.short in omega arith))
+    own_made ns ls n row known own coming c.count_available.new.counts.items c.show.new.counts.items made_available made_visible
+    (c.in_ok-count_own.ensures ns ls n (class ∙ sym own_line) (ap (index_in ls) own_line ∙ c.requires) (count ∙ ap (λ (l : Line). place ns l n.number) (sym own_line)) low (let e = made_visible.long in let le = made_available.short in omega arith))
