@@ -25,8 +25,8 @@ NAMED_KINDS = {
 
 
 def new_id(reading, point, own):
-    makers = ("buffer", "image", "memory", "pool", "semaphore", "event")
-    makes = point.kind == "host" and point.content[0] in makers
+    creating = ("buffer", "image", "memory", "pool", "semaphore", "event")
+    makes = point.kind == "host" and point.content[0] in creating
     return makes and point.content[1] in reading.made
 
 

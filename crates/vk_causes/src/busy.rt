@@ -5,7 +5,7 @@ ghost use Rattle.vk_order.specs.PointViews.{point_of};
 ghost use Rattle.vk_order.specs.Queries.{IsNew};
 ghost use Rattle.vk_queues.specs.PointViews.{past_of};
 
-use crate::making::{place_in, started_batches};
+use crate::creating::{place_in, started_batches};
 use crate::trail::uses;
 use std::alloc::{AllocError, Global};
 use std::collections::BTreeSet;

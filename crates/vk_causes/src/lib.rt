@@ -4,7 +4,7 @@
 
 mod busy;
 mod causes;
-mod making;
+mod creating;
 mod origins;
 mod signalers;
 mod trail;

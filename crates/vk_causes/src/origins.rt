@@ -1,4 +1,4 @@
-use crate::making::Makings;
+use crate::creating::CreatingEntries;
 use vk_image_tiles::texel_size;
 use vk_model::{BufferCopy, BufferImageCopy, Cmd, Entry, ImageCopy, Length, SubresourceRange};
 use vk_order::Byte;
@@ -14,14 +14,19 @@ pub enum Origin {
 
 /// Where the value comes from that a command writes to a byte, if it writes it; of several writes the
 /// first decides. The objects are those that were made before the command.
-pub fn origin_of(makings: &Makings<'_>, command: &Cmd, byte: Byte) -> Option<Origin> {
+pub fn origin_of(creating: &CreatingEntries<'_>, command: &Cmd, byte: Byte) -> Option<Origin> {
     match byte {
-        Byte::Buffer { buffer, at } => buffer_origin(makings, command, buffer, at),
-        Byte::Texel { .. } => texel_origin(makings, command, byte),
+        Byte::Buffer { buffer, at } => buffer_origin(creating, command, buffer, at),
+        Byte::Texel { .. } => texel_origin(creating, command, byte),
     }
 }
 
-fn buffer_origin(makings: &Makings<'_>, command: &Cmd, own: u32, at: u64) -> Option<Origin> {
+fn buffer_origin(
+    creating: &CreatingEntries<'_>,
+    command: &Cmd,
+    own: u32,
+    at: u64,
+) -> Option<Origin> {
     match command {
         Cmd::Fill {
             buffer,
@@ -29,7 +34,7 @@ fn buffer_origin(makings: &Makings<'_>, command: &Cmd, own: u32, at: u64) -> Opt
             size,
             ..
         } if *buffer == own => {
-            let size = filled(makings, own, *offset, *size);
+            let size = filled(creating, own, *offset, *size);
             is_within(at, *offset, size).then_some(Origin::Command)
         }
         Cmd::Update {
@@ -50,7 +55,7 @@ fn buffer_origin(makings: &Makings<'_>, command: &Cmd, own: u32, at: u64) -> Opt
             regions,
             ..
         } if *buffer == own => {
-            let texel = texel_of(makings, *image)?;
+            let texel = texel_of(creating, *image)?;
             for region in regions.as_slice() {
                 if let Some(from) = texel_at(region, *image, texel, at) {
                     return Some(Origin::Byte(from));
@@ -63,8 +68,8 @@ fn buffer_origin(makings: &Makings<'_>, command: &Cmd, own: u32, at: u64) -> Opt
 }
 
 /// How many bytes a fill writes.
-fn filled(makings: &Makings<'_>, buffer: u32, offset: u64, size: Length) -> u64 {
-    match makings.making(buffer) {
+fn filled(creating: &CreatingEntries<'_>, buffer: u32, offset: u64, size: Length) -> u64 {
+    match creating.entry(buffer) {
         Some(Entry::Buffer { info, .. }) => size.filled(info.size, offset),
         _ => 0,
     }
@@ -90,8 +95,8 @@ fn copied_from(regions: &[BufferCopy], source: u32, at: u64) -> Option<Origin> {
 }
 
 /// How many bytes a texel of an image has.
-fn texel_of(makings: &Makings<'_>, image: u32) -> Option<u64> {
-    match makings.making(image) {
+fn texel_of(creating: &CreatingEntries<'_>, image: u32) -> Option<u64> {
+    match creating.entry(image) {
         Some(Entry::Image { info, .. }) => Some(texel_size(info.format) as u64),
         _ => None,
     }
@@ -135,7 +140,7 @@ fn texel_at(region: &BufferImageCopy, image: u32, texel: u64, at: u64) -> Option
     })
 }
 
-fn texel_origin(makings: &Makings<'_>, command: &Cmd, byte: Byte) -> Option<Origin> {
+fn texel_origin(creating: &CreatingEntries<'_>, command: &Cmd, byte: Byte) -> Option<Origin> {
     let Byte::Texel { image: own, .. } = byte else {
         return None;
     };
@@ -147,7 +152,7 @@ fn texel_origin(makings: &Makings<'_>, command: &Cmd, byte: Byte) -> Option<Orig
             regions,
             ..
         } if *image == own => {
-            let texel = texel_of(makings, *image)?;
+            let texel = texel_of(creating, *image)?;
             for region in regions.as_slice() {
                 if let Some(from) = buffer_byte_at(region, *buffer, texel, byte) {
                     return Some(Origin::Byte(from));

@@ -1,4 +1,4 @@
-use crate::making::started_batches;
+use crate::creating::started_batches;
 use std::alloc::{AllocError, Global};
 use std::collections::BTreeSet;
 use vk_model::{At, Batch, Entry, SemaphoreSubmit, SemaphoreValue};

@@ -1,4 +1,4 @@
-use crate::making::Makings;
+use crate::creating::CreatingEntries;
 use crate::origins::{Origin, has_texel, origin_of};
 use vk_model::{Cmd, Element, Entry, ImageElement};
 use vk_order::{Act, Action, Byte, Point, is_acquire, is_release};
@@ -46,7 +46,7 @@ struct Trail<'a> {
 /// What was done last to the value of a byte, by some points; and, where a command comes next, by its
 /// use of the byte's resource.
 pub fn last_of<'a>(
-    makings: &Makings<'a>,
+    creating: &CreatingEntries<'a>,
     points: &[Point<'a>],
     next: Option<Point<'a>>,
     byte: Byte,
@@ -54,14 +54,14 @@ pub fn last_of<'a>(
     let resource = byte.resource();
     let mut trail = Trail {
         byte,
-        is_exclusive: makings.is_exclusive(resource),
-        is_cached: makings.is_cached(resource),
+        is_exclusive: creating.is_exclusive(resource),
+        is_cached: creating.is_cached(resource),
         owner: None,
         is_dirty: false,
         last: Last::Nothing,
     };
     for (index, point) in points.iter().enumerate() {
-        trail = trail.after(makings, index, *point);
+        trail = trail.after(creating, index, *point);
     }
     match next {
         Some(point) => trail.after_uses(point).last,
@@ -76,10 +76,10 @@ fn family_of(queue: u32) -> u32 {
 
 impl<'a> Trail<'a> {
     /// After a point, of this number.
-    fn after(self, makings: &Makings<'a>, number: usize, point: Point<'a>) -> Trail<'a> {
+    fn after(self, creating: &CreatingEntries<'a>, number: usize, point: Point<'a>) -> Trail<'a> {
         match point.action {
             Action::Host(entry) => self.after_entry(point, entry),
-            Action::Run(command) => self.after_command(makings, number, point, command),
+            Action::Run(command) => self.after_command(creating, number, point, command),
             Action::Wait(_) | Action::Signal(_) => self,
         }
     }
@@ -117,13 +117,13 @@ impl<'a> Trail<'a> {
 
     fn after_command(
         self,
-        makings: &Makings<'a>,
+        creating: &CreatingEntries<'a>,
         number: usize,
         point: Point<'a>,
         command: &'a Cmd,
     ) -> Trail<'a> {
         let mut trail = self.after_uses(point);
-        match origin_of(makings, command, self.byte) {
+        match origin_of(creating, command, self.byte) {
             Some(Origin::Command) => trail.last = Last::Written,
             Some(Origin::Byte(from)) => trail.last = Last::Copied(number, from),
             None => {}

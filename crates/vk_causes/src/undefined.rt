@@ -1,4 +1,4 @@
-use crate::making::Makings;
+use crate::creating::CreatingEntries;
 use crate::trail::{Last, Loss, last_of};
 use std::alloc::{AllocError, Global};
 use vk_order::{Byte, Point};
@@ -47,12 +47,12 @@ pub fn undefined_read<'a>(
     offset: u64,
     size: u64,
 ) -> Result<Option<Undefined<'a>>, AllocError> {
-    let makings = Makings::of(alloc, points)?;
+    let creating = CreatingEntries::of(alloc, points)?;
     let count = points.len() as u64;
     let mut left = MOST_STEPS.checked_div(count).unwrap_or(0);
     for at in offset..offset.saturating_add(size) {
         let byte = Byte::Buffer { buffer, at };
-        match undefined_byte(alloc, &makings, points, byte, left)? {
+        match undefined_byte(alloc, &creating, points, byte, left)? {
             Followed::Defined(walks) => left = left.saturating_sub(walks),
             Followed::Undefined(undefined) => return Ok(Some(undefined)),
             Followed::TooLong => return Ok(None),
@@ -64,7 +64,7 @@ pub fn undefined_read<'a>(
 /// Why a byte is undefined, if it is, with so many walks over the points at most.
 fn undefined_byte<'a>(
     alloc: Global,
-    makings: &Makings<'a>,
+    creating: &CreatingEntries<'a>,
     points: &[Point<'a>],
     byte: Byte,
     most: u64,
@@ -74,7 +74,7 @@ fn undefined_byte<'a>(
     let mut next = None;
     let mut followed = byte;
     for walk in 0..most {
-        let loss = match last_of(makings, earlier, next, followed) {
+        let loss = match last_of(creating, earlier, next, followed) {
             Last::Written => return Ok(Followed::Defined(walk.saturating_add(1))),
             Last::Nothing => None,
             Last::Lost(loss, point) => Some((loss, point)),

@@ -5,13 +5,13 @@ use vk_order::{Action, Point};
 
 /// The entries of some points that made ids; of several that made one the last.
 #[derive(Drop)]
-pub struct Makings<'a> {
+pub struct CreatingEntries<'a> {
     entries: BTreeMap<u32, &'a Entry>,
 }
 
-impl<'a> Makings<'a> {
+impl<'a> CreatingEntries<'a> {
     /// Those of some points. The only error is want of memory.
-    pub fn of(alloc: Global, points: &[Point<'a>]) -> Result<Makings<'a>, AllocError> {
+    pub fn of(alloc: Global, points: &[Point<'a>]) -> Result<CreatingEntries<'a>, AllocError> {
         let mut entries = BTreeMap::new(alloc);
         for point in points {
             if let Action::Host(entry) = point.action
@@ -20,17 +20,17 @@ impl<'a> Makings<'a> {
                 entries.insert(id, entry)?;
             }
         }
-        Ok(Makings { entries })
+        Ok(CreatingEntries { entries })
     }
 
     /// The entry that made an id.
-    pub fn making(&self, id: u32) -> Option<&'a Entry> {
+    pub fn entry(&self, id: u32) -> Option<&'a Entry> {
         self.entries.get(&id).copied()
     }
 
     /// Whether one queue family at a time owns a resource.
     pub fn is_exclusive(&self, resource: u32) -> bool {
-        match self.making(resource) {
+        match self.entry(resource) {
             Some(Entry::Buffer { info, .. }) => info.sharing == Sharing::Exclusive,
             Some(Entry::Image { info, .. }) => info.sharing == Sharing::Exclusive,
             _ => false,
@@ -39,16 +39,16 @@ impl<'a> Makings<'a> {
 
     /// Whether the host reaches a resource's memory through a cache.
     pub fn is_cached(&self, resource: u32) -> bool {
-        let Some(entry) = self.making(resource) else {
+        let Some(entry) = self.entry(resource) else {
             return false;
         };
         match place_in(entry) {
             Some(Place::Dedicated { memory_type }) => memory_type == 2,
-            Some(Place::Memory { memory, .. }) => match self.making(memory) {
+            Some(Place::Memory { memory, .. }) => match self.entry(memory) {
                 Some(Entry::Memory { info, .. }) => info.memory_type == 2,
                 _ => false,
             },
-            Some(Place::Pool { pool } | Place::PoolUpper { pool }) => match self.making(pool) {
+            Some(Place::Pool { pool } | Place::PoolUpper { pool }) => match self.entry(pool) {
                 Some(Entry::Pool { info, .. }) => info.memory_type == 2,
                 _ => false,
             },
