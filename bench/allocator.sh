@@ -82,24 +82,24 @@ answered() {
 # NAME STEPS ANSWERED KIND OPTION..: a row. ANSWERED is how many requests are answered, or '-' where
 # some find no room.
 steps_row() {
-    local name=$1 n=$2 wanted=$3 kind=$4 draws drawn fault=
+    local name=$1 n=$2 wanted=$3 kind=$4 draws drawn wrong_with=
     shift 4
     fastest "$PROGRAM" "$kind" draw --size "$block" --steps "$n" "$@"
     draws=$best
     drawn=${processor:-$best}
     fastest "$PROGRAM" "$kind" time --size "$block" --steps "$n" "$@"
     if [ "$ended" -ne 0 ]; then
-        fault="WRONG: status $ended: $(head -n 1 "$folder/complaint" | head -c 60)"
+        wrong_with="WRONG: status $ended: $(head -n 1 "$folder/complaint" | head -c 60)"
     elif ! awk -v n="$n" -v wanted="$wanted" '
         { right = $1 == "answered" && $3 == "refused" && $5 == "free" && $7 == "sum" &&
               $2 + $4 + $6 == n && (wanted == "-" || $2 == wanted && $4 == 0) }
         END { exit !(NR == 1 && right) }' <<<"$answer"; then
-        fault="WRONG: $answer, and $wanted wanted"
+        wrong_with="WRONG: $answer, and $wanted wanted"
     fi
-    [ -z "$fault" ] || wrong=$((wrong + 1))
+    [ -z "$wrong_with" ] || wrong=$((wrong + 1))
     to_half "$name $n" $((${processor:-$best} - drawn))
     print_steps "$name" "$n" "$(milliseconds "$best")" "$(milliseconds "$draws")" \
-        "$(rate "$n" $((best - draws)))" "$ratio" "$peak" "${fault:-as wanted}"
+        "$(rate "$n" $((best - draws)))" "$ratio" "$peak" "${wrong_with:-as wanted}"
 }
 
 # NAME STEPS LIVE: a row of the plain C loop.
@@ -130,9 +130,9 @@ static uint32_t word(void) {
     return (uint32_t)(state >> 33);
 }
 
-int main(int count, char **words) {
+int main(int count, char **arguments) {
     if (count != 3) return 2;
-    uint64_t steps = strtoull(words[1], 0, 10), live = strtoull(words[2], 0, 10);
+    uint64_t steps = strtoull(arguments[1], 0, 10), live = strtoull(arguments[2], 0, 10);
     struct node *nodes = calloc(live, sizeof *nodes);
     if (!nodes || live < 3) return 1;
     for (uint64_t i = 0; i < live; i++) {
@@ -232,7 +232,7 @@ print_alone() {
 
 # NAME: a row of an allocation alone from what runs wrote, and `allocation` set to its nanoseconds.
 alone_row() {
-    local drawn_request=0 drawn_return=0 fault=
+    local drawn_request=0 drawn_return=0 wrong_with=
     if [ -s "$folder/draws" ]; then
         per_call "$folder/draws"
         drawn_request=$request
@@ -243,13 +243,13 @@ alone_row() {
     if ! awk -v n="$steps" -v wanted="$wanted" '
         { right = $2 + $4 + $6 == n && (wanted == "-" || $2 == wanted && $4 == 0) }
         END { exit !(NR == 1 && right) }' <<<"$answer"; then
-        fault="WRONG: $answer, and $wanted wanted; $(head -c 60 "$folder/complaint")"
+        wrong_with="WRONG: $answer, and $wanted wanted; $(head -c 60 "$folder/complaint")"
         wrong=$((wrong + 1))
     fi
     allocation=$(awk -v all="$request" -v draw="$drawn_request" 'BEGIN { printf "%.1f", all - draw }')
     print_alone "$1" "$steps" "$request" "$drawn_request" "$allocation" \
         "$(awk -v all="$return" -v draw="$drawn_return" 'BEGIN { printf "%.1f", all - draw }')" \
-        "${fault:-as wanted}"
+        "${wrong_with:-as wanted}"
 }
 
 # NAME ROOM: two rows, whose runs take turns so that a busy machine slows both, and their ratio.
@@ -390,11 +390,11 @@ template <bool calls> static uint64_t make_steps(VmaVirtualBlockCreateInfo how, 
     return now() - from;
 }
 
-int main(int count, char **words) {
+int main(int count, char **arguments) {
     if (count != 3 || !read_steps()) return 2;
     VmaVirtualBlockCreateInfo how = {};
-    how.size = strtoull(words[2], 0, 10);
-    if (strcmp(words[1], "tlsf")) how.flags = VMA_VIRTUAL_BLOCK_CREATE_LINEAR_ALGORITHM_BIT;
+    how.size = strtoull(arguments[2], 0, 10);
+    if (strcmp(arguments[1], "tlsf")) how.flags = VMA_VIRTUAL_BLOCK_CREATE_LINEAR_ALGORITHM_BIT;
     Answers bare, answers;
     const uint64_t loop = make_steps<false>(how, bare), all = make_steps<true>(how, answers);
     printf("answered %llu refused %llu free %llu sum %llu in %llu %llu %llu\n",
@@ -411,10 +411,10 @@ print_beside() {
 
 # NAME STEPS RETURNS KIND OPTION..: a row of ours and VMA's, with 2,000 ranges live.
 beside_row() {
-    local name=$1 n=$2 wanted kind=$4 run all= draws= theirs fault=
+    local name=$1 n=$2 wanted kind=$4 run all= draws= theirs wrong_with=
     wanted=$(answered "$n" 2000 "$3")
     local plan=(--size "$block" --steps "$n" --live 2000 --returns "$3" --largest 4096 "${@:5}")
-    "$PROGRAM" "$kind" print "${plan[@]}" >"$folder/steps" || fault="WRONG: no steps"
+    "$PROGRAM" "$kind" print "${plan[@]}" >"$folder/steps" || wrong_with="WRONG: no steps"
     : >"$folder/theirs"
     for run in $(seq "$runs"); do
         took draws "$PROGRAM" "$kind" draw "${plan[@]}"
@@ -424,13 +424,13 @@ beside_row() {
     done
     answer=$({ cat "$folder/ours"; cut -d ' ' -f 1-6 "$folder/theirs"; } | sort -u)
     rm "$folder/ours"
-    [ "$answer" = "answered $wanted refused 0 free $((n - wanted))" ] || fault="WRONG: $answer, and $wanted wanted"
-    [ -z "$fault" ] || wrong=$((wrong + 1))
+    [ "$answer" = "answered $wanted refused 0 free $((n - wanted))" ] || wrong_with="WRONG: $answer, and $wanted wanted"
+    [ -z "$wrong_with" ] || wrong=$((wrong + 1))
     theirs=$(awk 'NR == 1 || $10 < all { all = $10 } NR == 1 || $11 < loop { loop = $11 }
         END { print all - loop }' "$folder/theirs")
     all=$((1000 * (all - draws)))
     print_beside "$name" "$n" "$(quotient "$all" "$n")" "$(quotient "$theirs" "$n")" \
-        "$(quotient "$all" "$theirs")" "${fault:-as many answered}"
+        "$(quotient "$all" "$theirs")" "${wrong_with:-as many answered}"
 }
 
 echo

@@ -58,7 +58,7 @@ complaint_of() {
 }
 
 # STATUS ANSWER: what is wrong with the run that just ended with `ended`, if anything is.
-fault_of() {
+what_is_wrong() {
     if [ "$ended" -ne "$1" ]; then
         echo "WRONG: status $ended, and not $1"
     elif ! $2 | cmp -s - "$folder/answer"; then
@@ -71,7 +71,7 @@ fault_of() {
 # NAME STATUS ANSWER TRACE..: a row. TRACE is a command that prints the trace, ANSWER one, in one
 # word, that prints what the program is to write for it, and STATUS how the program is to end.
 row() {
-    local name=$1 status=$2 answer=$3 best= processor= fault= run from
+    local name=$1 status=$2 answer=$3 best= processor= wrong_with= run from
     shift 3
     "$@" >"$folder/trace"
     for run in $(seq "$runs"); do
@@ -87,13 +87,13 @@ row() {
         if [ -z "$best" ] || [ $((moment - from)) -lt "$best" ]; then
             best=$((moment - from))
         fi
-        fault=$(fault_of "$status" "$answer")
-        [ -z "$fault" ] || break
+        wrong_with=$(what_is_wrong "$status" "$answer")
+        [ -z "$wrong_with" ] || break
     done
-    [ -z "$fault" ] || wrong=$((wrong + 1))
+    [ -z "$wrong_with" ] || wrong=$((wrong + 1))
     to_half "$name" "${processor:-$best}"
     print_row "$name" "$(wc -c <"$folder/trace")" "$(milliseconds "$best")" "$ratio" \
-        "$(mebibytes "$(tail -n 1 "$folder/peak")")" "$ended" "${fault:-as wanted}"
+        "$(mebibytes "$(tail -n 1 "$folder/peak")")" "$ended" "${wrong_with:-as wanted}"
 }
 
 milliseconds() {
@@ -150,16 +150,16 @@ compile_took() {
 #include <sys/wait.h>
 #include <unistd.h>
 
-int main(int count, char **words) {
+int main(int count, char **arguments) {
     if (count < 3) return 2;
     pid_t child = fork();
     if (child == 0) {
-        execvp(words[2], words + 2);
+        execvp(arguments[2], arguments + 2);
         _exit(127);
     }
     int status;
     struct rusage used;
-    FILE *file = fopen(words[1], "w");
+    FILE *file = fopen(arguments[1], "w");
     if (child < 0 || !file || wait4(child, &status, 0, &used) < 0) return 126;
     fprintf(file, "%lld\n", (used.ru_utime.tv_sec + used.ru_stime.tv_sec) * 1000000LL +
         used.ru_utime.tv_usec + used.ru_stime.tv_usec);

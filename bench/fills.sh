@@ -17,7 +17,7 @@ fill_and_read() {
 }
 
 # Helpers of awk: the bytes of a word, little-endian, in hex; and the answers of N reads of a line.
-words='
+helpers='
     function hex(word) {
         return sprintf("%02x%02x%02x%02x", word % 256, int(word / 256) % 256,
             int(word / 65536) % 256, int(word / 16777216))
@@ -35,7 +35,7 @@ ordered_fills() {
 
 # The first word is that of the last fill whose number is a multiple of 1,024.
 ordered_fills_answer() {
-    awk -v n="$1" "$words"' BEGIN { reads(1, hex(int((n - 1) / 1024) * 1024)) }'
+    awk -v n="$1" "$helpers"' BEGIN { reads(1, hex(int((n - 1) / 1024) * 1024)) }'
 }
 
 # N fills of a word side by side, and N reads of all N words.
@@ -45,7 +45,7 @@ side_by_side() {
 }
 
 side_by_side_answer() {
-    awk -v n="$1" "$words"' BEGIN {
+    awk -v n="$1" "$helpers"' BEGIN {
         for (i = 0; i < n; i++) line = line hex(i)
         reads(n, line)
     }'

@@ -37,7 +37,7 @@ whole_fills() {
 
 # N COUNT BYTES: what COUNT reads of BYTES bytes, 4 times a power of 2, answer after N such fills.
 whole_fills_answer() {
-    awk -v n="$1" -v count="$2" -v bytes="$3" "$words"' BEGIN {
+    awk -v n="$1" -v count="$2" -v bytes="$3" "$helpers"' BEGIN {
         line = hex(n * 16843009)
         for (size = 4; size < bytes; size *= 2) line = line line
         reads(count, line)

@@ -157,10 +157,10 @@ static uint64_t now(void) {
     return (uint64_t)time.tv_sec * 1000000000u + (uint64_t)time.tv_nsec;
 }
 
-int main(int count, char **words) {
+int main(int count, char **arguments) {
     if (count != 4) return 2;
-    size_t bytes = strtoull(words[2], 0, 10), turns = strtoull(words[3], 0, 10);
-    int fills = !strcmp(words[1], "fill"), within = !strcmp(words[1], "within");
+    size_t bytes = strtoull(arguments[2], 0, 10), turns = strtoull(arguments[3], 0, 10);
+    int fills = !strcmp(arguments[1], "fill"), within = !strcmp(arguments[1], "within");
     unsigned char *from = malloc(bytes), *other = malloc(bytes);
     if (!from || !other || bytes < 8) return 1;
     memset(from, 0xcd, bytes);
@@ -181,7 +181,7 @@ int main(int count, char **words) {
         if (time < least) least = time;
     }
     for (size_t i = 0; i < moved; i++) sum += into[i];
-    printf("%s %zu of %zu sum %llu in %llu ns least %llu ns\n", words[1], turns, bytes,
+    printf("%s %zu of %zu sum %llu in %llu ns least %llu ns\n", arguments[1], turns, bytes,
         (unsigned long long)sum, (unsigned long long)all, (unsigned long long)least);
 }
 END
@@ -193,7 +193,7 @@ least_of() {
 }
 
 # WORK BYTES TURNS: sets `ours` and `theirs` to the nanoseconds of the shortest turn of the program,
-# and of the C program at the work that is like it; and `fault` where the program's answers differ.
+# and of the C program at the work that is like it; and `wrong_with` where the program's answers differ.
 shortest_turns() {
     local run plain=copy
     case $1 in
@@ -205,10 +205,10 @@ shortest_turns() {
         "$STEPS" "$1" --bytes "$2" --turns "$3" --clock >>"$folder/ours" 2>&1
         "$folder/moves" "$plain" "$2" "$3" >>"$folder/theirs"
     done
-    fault=
+    wrong_with=
     if [ "$(cut -d ' ' -f 1-6 "$folder/ours" | sort | uniq -c | wc -l)" -ne 1 ] ||
         ! grep -q "^$1 $3 of $2 sum [0-9]* in " "$folder/ours"; then
-        fault="WRONG: $(head -n 1 "$folder/ours")"
+        wrong_with="WRONG: $(head -n 1 "$folder/ours")"
         wrong=$((wrong + 1))
     fi
     least_of "$folder/ours"
@@ -223,19 +223,19 @@ print_moves() {
 
 # The rows of what moves cost, for so many bytes.
 moves_rows() {
-    local bytes=$1 turns=$((268435456 / $1)) work ours theirs fault together=0
+    local bytes=$1 turns=$((268435456 / $1)) work ours theirs wrong_with together=0
     for work in copy fill write read; do
         shortest_turns "$work" "$bytes" "$turns"
         print_moves "$work" "$bytes" "$ours" "$theirs" "$(quotient "$theirs" "$ours")" \
-            "${fault:-of the speed of $([ "$work" = fill ] && echo memset || echo memcpy)}"
+            "${wrong_with:-of the speed of $([ "$work" = fill ] && echo memset || echo memcpy)}"
     done
     shortest_turns within $((2 * bytes)) "$turns"
     print_moves within "$bytes" "$ours" "$theirs" "$(quotient "$theirs" "$ours")" \
-        "${fault:-of the speed of memcpy}"
+        "${wrong_with:-of the speed of memcpy}"
     for work in cache-write cache-flush cache-read; do
         shortest_turns "$work" "$bytes" $((turns / 8 + 1))
         print_moves "$work" "$bytes" "$ours" "$theirs" "$(quotient "$ours" "$theirs")" \
-            "${fault:-times as long as memcpy}"
+            "${wrong_with:-times as long as memcpy}"
         together=$((together + ours))
     done
     print_moves "the three together" "$bytes" "$together" "$theirs" \
@@ -244,42 +244,42 @@ moves_rows() {
 
 # NAME BYTES: the row of what a trace's bytes cost, of which so many are read back.
 trace_row() {
-    local n=127 run all= alone= fault= moved
+    local n=127 run all= alone= wrong_with= moved
     staging "$n" "$2" >"$folder/trace"
     staging "$n" "$2" '["unmap",2],' >"$folder/refused"
     : >"$folder/theirs"
     for run in $(seq "$runs"); do
         took all "$PROGRAM" "${ARGUMENTS[@]}" <"$folder/trace"
         if [ "$ended" -ne 0 ] || ! staged_answer "$n" "$2" | cmp -s - "$folder/answer"; then
-            fault="WRONG: status $ended, $(head -c 60 "$folder/answer")"
+            wrong_with="WRONG: status $ended, $(head -c 60 "$folder/answer")"
         fi
         took alone "$PROGRAM" "${ARGUMENTS[@]}" <"$folder/refused"
-        [ "$(cat "$folder/answer")" = "refused 0 LIVE_ID" ] || fault="WRONG: $(head -c 60 "$folder/answer")"
+        [ "$(cat "$folder/answer")" = "refused 0 LIVE_ID" ] || wrong_with="WRONG: $(head -c 60 "$folder/answer")"
         "$folder/moves" copy $((n * 65536)) 16 >>"$folder/theirs"
     done
-    [ -z "$fault" ] || wrong=$((wrong + 1))
+    [ -z "$wrong_with" ] || wrong=$((wrong + 1))
     least_of "$folder/theirs"
     moved=$((4 * least / 1000))
     print_trace "$1" "$(wc -c <"$folder/trace")" "$(milliseconds "$all")" "$(milliseconds "$alone")" \
-        "$(milliseconds "$moved")" "$(quotient "$all" $((alone + moved)))" "${fault:-as wanted}"
+        "$(milliseconds "$moved")" "$(quotient "$all" $((alone + moved)))" "${wrong_with:-as wanted}"
 }
 
 # N: the row of what a small copy with its barrier costs, where there are so many.
 copies_row() {
-    local run all= alone= fault=
+    local run all= alone= wrong_with=
     small_copies "$1" >"$folder/trace"
     { printf '[["unmap",2],'; tail -c +2 "$folder/trace"; } >"$folder/refused"
     for run in $(seq "$runs"); do
         took all "$PROGRAM" "${ARGUMENTS[@]}" <"$folder/trace"
         if [ "$ended" -ne 0 ] || ! small_copies_answer | cmp -s - "$folder/answer"; then
-            fault="WRONG: status $ended, $(head -c 60 "$folder/answer")"
+            wrong_with="WRONG: status $ended, $(head -c 60 "$folder/answer")"
         fi
         took alone "$PROGRAM" "${ARGUMENTS[@]}" <"$folder/refused"
-        [ "$(cat "$folder/answer")" = "refused 0 LIVE_ID" ] || fault="WRONG: $(head -c 60 "$folder/answer")"
+        [ "$(cat "$folder/answer")" = "refused 0 LIVE_ID" ] || wrong_with="WRONG: $(head -c 60 "$folder/answer")"
     done
-    [ -z "$fault" ] || wrong=$((wrong + 1))
+    [ -z "$wrong_with" ] || wrong=$((wrong + 1))
     print_copies "one of $1" "$(wc -c <"$folder/trace")" "$(quotient "$all" "$1")" \
-        "$(quotient "$alone" "$1")" "$(quotient $((all - alone)) "$1")" "${fault:-as wanted}"
+        "$(quotient "$alone" "$1")" "$(quotient $((all - alone)) "$1")" "${wrong_with:-as wanted}"
 }
 
 # N BYTES: what is written where so many bytes are read back.

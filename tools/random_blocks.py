@@ -43,7 +43,7 @@ def arguments(kind, seed, steps):
     }
 
 
-def words(program, kind, mode, chosen):
+def command_of(program, kind, mode, chosen):
     return [program, kind, mode, *(word for k, v in chosen.items() for word in (f"--{k}", str(v)))]
 
 
@@ -92,7 +92,7 @@ def summed(lines):
 
 def difference(program, kind, chosen, counts):
     """What is wrong with the steps of a seed, if anything is."""
-    lines = [line.split() for line in run(words(program, kind, "print", chosen))]
+    lines = [line.split() for line in run(command_of(program, kind, "print", chosen))]
     steps = [line for line in lines if line[0] in ("allocate", "upper", "below", "free")]
     block = block_of(kind, chosen["size"])
     for number, line in enumerate(lines, 1):
@@ -107,7 +107,7 @@ def difference(program, kind, chosen, counts):
         return f"taken: {taken}, wanted {block.taken()}"
     if len(steps) != chosen["steps"]:
         return f"{len(steps)} steps"
-    if run(words(program, kind, "time", chosen)) != [summed(steps)]:
+    if run(command_of(program, kind, "time", chosen)) != [summed(steps)]:
         return f"sum: wanted {summed(steps)}"
     counts.update({f"{kind} {name}": count for name, count in block.counts.items()})
     return None
@@ -128,7 +128,7 @@ def main():
             chosen = arguments(kind, seed, each)
             found = difference(options.program, kind, chosen, counts)
             if found:
-                print(f"{' '.join(words(options.program, kind, 'print', chosen))}\n{found}")
+                print(f"{' '.join(command_of(options.program, kind, 'print', chosen))}\n{found}")
                 return 1
         print(f"{kind}: seeds {first} to {end - 1}, {each * (end - first)} steps agree")
         for name, count in sorted(counts.items()):

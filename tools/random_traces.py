@@ -30,10 +30,10 @@ NAMES = ("memory", "write", "flush", "invalidate", "update", "copy", "destroy", 
 
 def run(program, trace, heaps, order):
     """What the program answers: its output, its exit status and its standard error."""
-    heap_words = ["--heap0", str(heaps[0]), "--heap1", str(heaps[1])]
-    words = [program, "--order", *order, *heap_words]
+    heap_options = ["--heap0", str(heaps[0]), "--heap1", str(heaps[1])]
+    command = [program, "--order", *order, *heap_options]
     ended = subprocess.run(
-        words, input=json.dumps(trace).encode(), capture_output=True, timeout=SECONDS
+        command, input=json.dumps(trace).encode(), capture_output=True, timeout=SECONDS
     )
     return ended.stdout.decode(), ended.returncode, ended.stderr.decode()
 
