@@ -48,7 +48,7 @@ elsewhere past p c is away m at element =
     let of = element_of m.point.action m.act found.2 element in
     away c is found.0 m.point of.0 found.1 of.1
 
--- ---- elements of one command stand together
+-- ---- elements of one command are together
 
 same_itself : (p : Point) → same_place p p ≡ true
 same_itself p = rw (eq-eqb p.entry p.entry refl, eq-eqb p.batch p.batch refl, eq-eqb p.place p.place refl) refl

@@ -149,8 +149,8 @@ fn gone_on_all(
     Ok(all)
 }
 
-/// A trial with each list of edits that is tried after it and takes nothing out, if another fault
-/// stands then; whether there are some.
+/// A trial with each list of edits that is tried after it and takes nothing out, if the first fault is
+/// another then; whether there are some.
 fn gone_on(
     alloc: Global,
     trace: &[Entry],
