@@ -1,3 +1,4 @@
 pub mod Numbers
 pub mod Paths
 pub mod Growth
+pub mod HostActs

@@ -11,23 +11,10 @@ use Rattle.vk_model.proofs.Lists.Members.{some_member, member_passes}
 use Rattle.vk_model.proofs.Lists.Truths.{no, bool_same, clash}
 use Rattle.vk_model.proofs.Sync.Numbers.{unique}
 use Rattle.vk_model.proofs.Sync.Paths.{leads_on, before_of_path}
+use Rattle.vk_model.proofs.Sync.HostActs.{flush_host, invalidation_host}
 use Rattle.vk_order.specs.Cached.{uncached, IsFirstFlush, IsLastInvalidation}
 use Rattle.vk_order.proofs.LinePrefixes.{host_edge}
 use Rattle.vk_order.proofs.Visibility.{transitive, parts_of, seen_by}
-
-flush_host : (a : Act) (b : Byte) → flushes a b ≡ true → is_host a ≡ true
-flush_host (Hosts x) b h = refl
-flush_host (Waits s) b h = no h
-flush_host (Signals s) b h = no h
-flush_host (Runs c) b h = no h
-flush_host (Depends r e) b h = no h
-
-invalidation_host : (a : Act) (b : Byte) → invalidates a b ≡ true → is_host a ≡ true
-invalidation_host (Hosts x) b h = refl
-invalidation_host (Waits s) b h = no h
-invalidation_host (Signals s) b h = no h
-invalidation_host (Runs c) b h = no h
-invalidation_host (Depends r e) b h = no h
 
 module _ (ns : List Node) (numbers : IsNumbered ns) where
   -- host entries come one after another

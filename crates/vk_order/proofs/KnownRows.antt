@@ -14,6 +14,7 @@ use Rattle.vk_model.proofs.Lists.Members.{contains-cons, contains-head, contains
 use Rattle.vk_model.proofs.Lists.Truths.{no}
 use Rattle.vk_model.proofs.Sync.Numbers.{number_below, edge-older}
 use Rattle.vk_model.proofs.Sync.Paths.{edge_forward, forward, path_of_before, before_of_path}
+use Rattle.vk_model.proofs.Sync.HostActs.{submit_host}
 use Rattle.vk_order.specs.declared.lines.Line.{Line}
 use Rattle.vk_order.specs.declared.lines.Line.TheVariants.{Host as OfHost, Commands as OfCommands, Signals as OfSignals, Elements as OfElements, Sets as OfSets, Waits as OfWaits}
 use Rattle.vk_order.specs.Lines.{has_transfer, has_host, element_class, line_on, line_of}
@@ -55,13 +56,6 @@ makes_available_takes q i p (Depends r e) = go (makes_all_available (Depends r e
 -- ---- lines
 
 -- a submit is an entry of the host
-submit_host : (a : Act) → is_submit a ≡ true → IsTrue (is_host a)
-submit_host (Hosts x) e = refl
-submit_host (Waits s) e = no e
-submit_host (Signals s) e = no e
-submit_host (Runs c) e = no e
-submit_host (Depends r x) e = no e
-
 -- only the host's line has host entries
 pub host_on : (q : ℕ) (a : Act) (l : Line) → line_on q a ≡ Some l → is_host a ≡ is_of_host l
 host_on q (Hosts x) l e = let is : l ≡ OfHost = cc in sym (ap is_of_host is)

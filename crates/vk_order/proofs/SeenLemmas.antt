@@ -8,11 +8,12 @@ use Rattle.vk_model.specs.World.Bytes.{Byte}
 use Rattle.vk_model.specs.Sync.Node.{Node, Act, Hosts, Waits, Signals, Runs, Depends, same_node}
 use Rattle.vk_model.specs.Sync.Edge.{edge, by_semaphore, signaled_by, is_host, is_submit}
 use Rattle.vk_model.specs.Sync.Before.{before, direct, IsNumbered}
-use Rattle.vk_model.specs.Sync.Seen.{Access, Read, Write, seen, available_by, visible_by, makes_writes_available, makes_writes_visible, needs_invalidation, passes, flushes, invalidates, to_host, is_wait, command_mask, host_mask}
+use Rattle.vk_model.specs.Sync.Seen.{Access, Read, Write, seen, available_by, visible_by, makes_writes_visible, needs_invalidation, passes, flushes, invalidates, to_host, is_wait, command_mask, host_mask}
 use Rattle.vk_model.proofs.Lists.Members.{member_passes, some_member}
 use Rattle.vk_model.proofs.Lists.Truths.{no, clash, bool_same}
 use Rattle.vk_model.proofs.Sync.Numbers.{unique}
 use Rattle.vk_model.proofs.Sync.Paths.{before_of_path, path_of_before, joined, leads_on}
+use Rattle.vk_model.proofs.Sync.HostActs.{submit_host, flush_host, invalidation_host, same_available}
 use Rattle.vk_order.specs.declared.acts.Row.{Row}
 use Rattle.vk_order.specs.PointViews.{act_of, node_of, nodes_after}
 use Rattle.vk_order.specs.Inner.Links.{unsignaled}
@@ -27,40 +28,12 @@ use Rattle.vk_order.proofs.Visibility.{parts_of, seen_by}
 
 -- ---- acts
 
-same_available : (cached : Byte → Bool) (ns : List Node) (p : Node) (b : Byte) (a : Act) → makes_writes_available (λ c. false) [] p b a ≡ makes_writes_available cached ns p b a
-same_available cached ns p b (Depends r e) = refl
-same_available cached ns p b (Signals s) = refl
-same_available cached ns p b (Hosts x) = refl
-same_available cached ns p b (Waits s) = refl
-same_available cached ns p b (Runs c) = refl
-
 same_visible : (cached : Byte → Bool) (ns : List Node) (mask : ℕ) (b : Byte) (q : Node) (a : Act) → makes_writes_visible (λ c. false) [] mask b q a ≡ makes_writes_visible cached ns mask b q a
 same_visible cached ns mask b q (Depends r e) = refl
 same_visible cached ns mask b q (Signals s) = refl
 same_visible cached ns mask b q (Hosts x) = refl
 same_visible cached ns mask b q (Waits s) = refl
 same_visible cached ns mask b q (Runs c) = refl
-
-submit_host : (a : Act) → is_submit a ≡ true → is_host a ≡ true
-submit_host (Hosts x) h = refl
-submit_host (Waits s) h = no h
-submit_host (Signals s) h = no h
-submit_host (Runs c) h = no h
-submit_host (Depends r e) h = no h
-
-flush_host : (a : Act) (b : Byte) → flushes a b ≡ true → is_host a ≡ true
-flush_host (Hosts x) b h = refl
-flush_host (Waits s) b h = no h
-flush_host (Signals s) b h = no h
-flush_host (Runs c) b h = no h
-flush_host (Depends r e) b h = no h
-
-invalidation_host : (a : Act) (b : Byte) → invalidates a b ≡ true → is_host a ≡ true
-invalidation_host (Hosts x) b h = refl
-invalidation_host (Waits s) b h = no h
-invalidation_host (Signals s) b h = no h
-invalidation_host (Runs c) b h = no h
-invalidation_host (Depends r e) b h = no h
 
 module _ (rows : List Row) where
   abbrev all : List Node

@@ -13,13 +13,14 @@ use Rattle.vk_model.specs.Trace.Point.{Past, Point, Action, Host, Wait, Run, Sig
 use Rattle.vk_model.specs.Trace.Order.{host}
 use Rattle.vk_model.specs.Trace.Structure.{IsEarlier, by_entry, by_batch, by_turn, by_place, Follows, IsOrdered}
 use Rattle.vk_model.specs.Rules.Fault.{Comes, newest, older}
-use Rattle.vk_model.specs.Sync.Node.{Node, Act, Hosts, Waits, Signals, Runs, Depends, Barrier, SetOf, AwaitOf, acts, command_acts, nodes, with_acts}
-use Rattle.vk_model.specs.Sync.Edge.{edge, is_host, is_submit, is_command}
+use Rattle.vk_model.specs.Sync.Node.{Node, Act, Hosts, Runs, Depends, Barrier, SetOf, AwaitOf, acts, command_acts, nodes, with_acts}
+use Rattle.vk_model.specs.Sync.Edge.{edge, is_submit, is_command}
 use Rattle.vk_model.specs.Sync.Before.{before, Path, direct, longer, IsNumbered}
 use Rattle.vk_model.proofs.Lists.Members.{none_in, contains-cons, contains-head, contains-tail, only_one, mapped_from}
 use Rattle.vk_model.proofs.Lists.Truths.{no}
 use Rattle.vk_model.proofs.Sync.Numbers.{number_below, numbered, unique}
 use Rattle.vk_model.proofs.Sync.Paths.{edge_forward, path_of_before, before_of_path, target, joined}
+use Rattle.vk_model.proofs.Sync.HostActs.{submit_host}
 use Rattle.vk_model.proofs.Trace.Structure.{entry_below, is_of_batch}
 use Rattle.vk_order.specs.declared.lines.Line.TheVariants.{Commands as OfCommands}
 use Rattle.vk_order.specs.Lines.{line_of}
@@ -30,13 +31,6 @@ use Rattle.vk_order.proofs.NodeEdges.{into_command}
 use Rattle.vk_order.proofs.ElementPlaces.{with_member, member_point}
 
 -- ---- what leads to a command, leads to the next one of its queue
-
-submit_is_host : (a : Act) → is_submit a ≡ true → is_host a ≡ true
-submit_is_host (Hosts x) h = refl
-submit_is_host (Waits s) h = no h
-submit_is_host (Signals s) h = no h
-submit_is_host (Runs c) h = no h
-submit_is_host (Depends r e) h = no h
 
 to_command : (ns : List Node) (k d : Node) (y : Cmd) → d.act ≡ Runs y → linked ns k d ≡ (submits d.point.entry k || to_commands d.point.queue k)
 to_command ns k d y is = subst (λ (t : Act). linked ns k (node d.number d.point t) ≡ (submits d.point.entry k || to_commands d.point.queue k)) (sym is) (into_command ns k.number d.number k.point d.point k.act y)
@@ -55,7 +49,7 @@ module _ (ns : List Node) (numbers : IsNumbered ns) (submitted : AreSubmitted ns
       let le = submitted.submits k s hk own.1 parts.0 two.0 (omega arith) in
       let last : IsTrue (edge ns s d) = of_linked ns s d own.3 (to_command ns s d y ed ∙ or_left (submits d.point.entry s) (to_commands d.point.queue s) own.2) in
       ⊎_elim
-      (λ first. longer (direct hk own.1 (host_edge ns k s first (submit_is_host k.act parts.0) (submit_is_host s.act two.0))) hd last)
+      (λ first. longer (direct hk own.1 (host_edge ns k s first (submit_host k.act parts.0) (submit_host s.act two.0))) hd last)
       (λ high. direct hk hd (subst (λ (n : Node). IsTrue (edge ns n d)) (unique ns numbers s k own.1 hk (let a = high in omega arith)) last))
       (cases_lt k.number s.number)
 
