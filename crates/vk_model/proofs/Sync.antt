@@ -1,4 +1,5 @@
 pub mod Numbers
 pub mod Paths
 pub mod Growth
+pub mod NewNodes
 pub mod HostActs

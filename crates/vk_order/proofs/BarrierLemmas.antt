@@ -13,13 +13,14 @@ use Rattle.vk_model.specs.Sync.Seen.{Access, seen, available_by, makes_writes_av
 use Rattle.vk_model.proofs.Lists.Members.{contains-cons, contains-head, contains-tail}
 use Rattle.vk_model.proofs.Lists.Truths.{clash, no, bool_same}
 use Rattle.vk_model.proofs.Sync.Growth.{seen-older}
-use Rattle.vk_model.proofs.Sync.Numbers.{number_below, unique, edge-new}
+use Rattle.vk_model.proofs.Sync.Numbers.{number_below, unique, edge-new, numbered_acts}
+use Rattle.vk_model.proofs.Sync.NewNodes.{with_acts_keeps}
 use Rattle.vk_model.proofs.Sync.Paths.{leads_on}
 use Rattle.vk_order.specs.Barriers.{element_node, with_barrier, ElementsComeAlone, ElementsSeeAlone}
 use Rattle.vk_order.specs.Limited.{IsWrite}
 use Rattle.vk_order.proofs.ByEdges.{by_last, old_before}
 use Rattle.vk_order.proofs.KnownRows.{old_edge}
-use Rattle.vk_order.proofs.SiblingLemmas.{before_stays, numbered_with, there_with, cases, no_edge, same_edge, before_alone}
+use Rattle.vk_order.proofs.SiblingLemmas.{before_stays, cases, no_edge, same_edge, before_alone}
 use Rattle.vk_order.proofs.Visibility.{parts_of, seen_by}
 
 -- ---- nodes that come change nothing among the older ones
@@ -143,13 +144,13 @@ module _ (p : Point) (ns : List Node) (numbers : IsNumbered ns) (es : List Eleme
   alone = element_node p (length ns) e
 
   all_numbers : IsNumbered all
-  all_numbers = numbered_with p (map (Depends Barrier) es) ns numbers
+  all_numbers = numbered_acts p (map (Depends Barrier) es) ns numbers
 
   now : IsNumbered (together ∷ all)
   now = (refl, all_numbers)
 
   there : (m : Node) → Contains ns m → Contains all m
-  there m c = there_with p (map (Depends Barrier) es) ns m c
+  there m c = with_acts_keeps p (map (Depends Barrier) es) ns m c
 
   -- nothing of the barrier comes before it
   only_older : (m : Node) → Contains (together ∷ all) m → IsTrue (before (together ∷ all) m together) → Contains ns m
@@ -229,7 +230,7 @@ module _ (ns : List Node) (p : Point) (es more : List Element) (e : Element) (nu
   whole = ap (λ (more : List Act). with_acts p more ns) (map-append (Depends Barrier) es (e ∷ more)) ∙ with_more p (map (Depends Barrier) es) (map (Depends Barrier) (e ∷ more)) ns
 
   numbered_here : IsNumbered (it ∷ here)
-  numbered_here = (refl, numbered_with p (map (Depends Barrier) es) ns numbers)
+  numbered_here = (refl, numbered_acts p (map (Depends Barrier) es) ns numbers)
 
   at : element_node p (length ns + length es) e ≡ it
   at = ap (λ (j : ℕ). element_node p j e) (sym (count_with p es ns))

@@ -1,20 +1,20 @@
 -- In a past without a hazard of writes, an access that sees the last write sees all.
-use Rattle.std.proofs.Common.{◌≡◌, ◌<◌, ◌≤◌, List, [], ◌∷◌, ◌++◌, length, Bool, true, false, ◌&&◌, not, IsTrue, refl, ap, sym, ◌∙◌, subst, reverse}
-use Rattle.std.specs.Prelude.{nat_lt, nat_le, Contains}
-use Rattle.std.specs.List.{list_any, filter}
-use Rattle.std.proofs.lemmas.Bool.{lt-ltb, le-leb, and_from}
-use Rattle.std.proofs.lemmas.List.Sorted.{list_any-IsPermutation, IsPermutation-reverse}
+use Rattle.std.proofs.Common.{◌≡◌, ◌<◌, ◌≤◌, List, [], ◌∷◌, ◌++◌, length, Bool, true, false, ◌&&◌, not, IsTrue, refl, ap, sym, ◌∙◌, subst}
+use Rattle.std.specs.Prelude.{nat_lt, Contains}
+use Rattle.std.specs.List.{list_any}
+use Rattle.std.proofs.lemmas.Bool.{lt-ltb, and_from}
 use Rattle.vk_model.specs.World.Bytes.{Byte, resource_at}
 use Rattle.vk_model.specs.Trace.Objects.{is_cached}
 use Rattle.vk_model.specs.Trace.Point.{Past, Point}
-use Rattle.vk_model.specs.Sync.Node.{Node, Act, Hosts, Waits, Signals, Runs, Depends, nodes, next_nodes}
+use Rattle.vk_model.specs.Sync.Node.{Node, Act, Hosts, Waits, Signals, Runs, Depends, nodes}
 use Rattle.vk_model.specs.Sync.Edge.{is_host}
 use Rattle.vk_model.specs.Sync.Seen.{Access, Read, Write, seen, available_by, visible_by}
 use Rattle.vk_model.specs.Sync.Access.{writes, is_in, is_seen, precedes, waw, hazard}
 use Rattle.vk_model.specs.Laws.{GrowthKeeps}
-use Rattle.vk_model.proofs.Lists.Members.{contains-tail, member_passes, any_same, any_filter}
+use Rattle.vk_model.proofs.Lists.Members.{contains-tail, member_passes, any_same}
 use Rattle.vk_model.proofs.Lists.Truths.{clash, unless}
 use Rattle.vk_model.proofs.Sync.Numbers.{numbered}
+use Rattle.vk_model.proofs.Sync.NewNodes.{found_new}
 use Rattle.vk_order.proofs.Visibility.{seen_through}
 
 -- ---- whether the byte itself is cached is all that counts
@@ -42,11 +42,6 @@ module _ (c d : Byte → Bool) (ns : List Node) (b : Byte) (e : c b ≡ d b) whe
       (ap (λ (t : Bool). available_by d ns w w.act b p && t) (any_same _ _ ns (λ q g. rw (visible_same w a q a.act k) refl))))
 
 -- ---- hazards
-
-found_new : (f : Node → Bool) (past : Past) (p : Point) (y : Node) → Contains (nodes (p ∷ past)) y → length (nodes past) ≤ y.number → IsTrue (f y) → IsTrue (list_any f (next_nodes past p))
-found_new f past p y c le h =
-    let new = filter (λ n. nat_le (length (nodes past)) n.number) (nodes (p ∷ past)) in
-    sym (list_any-IsPermutation f new (reverse new) (IsPermutation-reverse new)) ∙ any_filter f (λ n. nat_le (length (nodes past)) n.number) (nodes (p ∷ past)) y c (le-leb (length (nodes past)) y.number le) h
 
 -- a write that no hazard hides is seen
 written_seen : (past : Past) (p : Point) (x y : Node) (b : Byte) → hazard waw past p ≡ false → Contains (nodes (p ∷ past)) x → Contains (nodes (p ∷ past)) y → length (nodes past) ≤ y.number → IsTrue (precedes x y)

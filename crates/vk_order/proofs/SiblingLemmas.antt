@@ -10,6 +10,8 @@ use Rattle.vk_model.specs.Sync.Edge.{edge, earlier}
 use Rattle.vk_model.specs.Sync.Before.{before, IsNumbered}
 use Rattle.vk_model.proofs.Lists.Members.{contains-cons, contains-tail}
 use Rattle.vk_model.proofs.Lists.Truths.{clash}
+use Rattle.vk_model.proofs.Sync.Numbers.{numbered_acts}
+use Rattle.vk_model.proofs.Sync.NewNodes.{with_acts_keeps}
 use Rattle.vk_order.proofs.ByEdges.{by_last, by_edge, old_before, edge_barrier}
 
 -- two tests that hold together are equal
@@ -24,14 +26,6 @@ before_stays p [] ns numbers x y c = refl
 before_stays p (a ∷ more) ns numbers x y c =
     let n : Node = record { number = length ns; point = p; act = a } in
     before_stays p more (n ∷ ns) (refl, numbers) x y (contains-tail n ns y c) ∙ old_before n ns (refl, numbers) x y c
-
-pub numbered_with : (p : Point) (more : List Act) (ns : List Node) → IsNumbered ns → IsNumbered (with_acts p more ns)
-numbered_with p [] ns numbers = numbers
-numbered_with p (a ∷ more) ns numbers = numbered_with p more (record { number = length ns; point = p; act = a } ∷ ns) (refl, numbers)
-
-pub there_with : (p : Point) (more : List Act) (ns : List Node) (m : Node) → Contains ns m → Contains (with_acts p more ns) m
-there_with p [] ns m c = c
-there_with p (a ∷ more) ns m c = let n : Node = record { number = length ns; point = p; act = a } in there_with p more (n ∷ ns) m (contains-tail n ns m c)
 
 module _ (p : Point) where
   -- the node of an element of a barrier, with this number
@@ -73,13 +67,13 @@ module _ (p : Point) where
     all = with_acts p (map (Depends Barrier) es) ns
 
     now : IsNumbered (own (length all) e ∷ all)
-    now = (refl, numbered_with p (map (Depends Barrier) es) ns numbers)
+    now = (refl, numbered_acts p (map (Depends Barrier) es) ns numbers)
 
     -- what comes before an element comes before it alone
     pub before_alone : (m : Node) → Contains ns m → before (own (length all) e ∷ all) m (own (length all) e) ≡ before (own (length ns) e ∷ ns) m (own (length ns) e)
     before_alone m c = same_truth _ _ alone together where
       there : (k : Node) → Contains ns k → Contains all k
-      there k d = there_with p (map (Depends Barrier) es) ns k d
+      there k d = with_acts_keeps p (map (Depends Barrier) es) ns k d
 
       alone : IsTrue (before (own (length all) e ∷ all) m (own (length all) e)) → IsTrue (before (own (length ns) e ∷ ns) m (own (length ns) e))
       alone h = let s = by_last (own (length all) e) all now m (there m c) h in ⊎_elim

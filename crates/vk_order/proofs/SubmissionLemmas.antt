@@ -21,6 +21,7 @@ use Rattle.vk_model.proofs.Lists.Truths.{no}
 use Rattle.vk_model.proofs.Sync.Numbers.{number_below, numbered, unique}
 use Rattle.vk_model.proofs.Sync.Paths.{edge_forward, path_of_before, before_of_path, target, joined}
 use Rattle.vk_model.proofs.Sync.HostActs.{submit_host}
+use Rattle.vk_model.proofs.Sync.NewNodes.{with_acts_keeps}
 use Rattle.vk_model.proofs.Trace.Structure.{entry_below, is_of_batch}
 use Rattle.vk_order.specs.declared.lines.Line.TheVariants.{Commands as OfCommands}
 use Rattle.vk_order.specs.Lines.{line_of}
@@ -76,10 +77,6 @@ follow ns numbers submitted q m c d hm hc hd lc ld lt h =
     before_of_path ns numbers m d hm hd (next_path ns numbers submitted c d a.0 b.0 a.1 b.1 (a.2 ∙ sym b.2) hc hd lt m (path_of_before ns numbers m c hm hc h))
 
 -- ---- the nodes of an ordered past
-
-with_acts_keeps : (p : Point) (more : List Act) (ns : List Node) (n : Node) → Contains ns n → Contains (with_acts p more ns) n
-with_acts_keeps p [] ns n h = h
-with_acts_keeps p (a ∷ more) ns n h = with_acts_keeps p more (record { number = length ns; point = p; act = a } ∷ ns) n (contains-tail _ ns n h)
 
 -- an entry of a past has a node
 entry_node : (past : Past) (e : ℕ) (x : Entry) → Contains past (host e x) → (s : Node) × Contains (nodes past) s × (s.point ≡ host e x) × (s.act ≡ Hosts x)

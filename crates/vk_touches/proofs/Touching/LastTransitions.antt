@@ -10,9 +10,9 @@ use Rattle.vk_model.specs.Trace.Point.{Past, Point, Action, Run}
 use Rattle.vk_model.specs.Sync.Node.{Node, Act, Depends, Barrier, nodes, acts, with_acts}
 use Rattle.vk_model.proofs.Lists.Members.{contains-head, none_passes_any}
 use Rattle.vk_model.proofs.Sync.Numbers.{numbered, number_below}
+use Rattle.vk_model.proofs.Sync.NewNodes.{with_acts_keeps}
 use Rattle.vk_laws.proofs.Nodes.Counts.{more_nodes}
 use Rattle.vk_order.specs.Barriers.{element_node}
-use Rattle.vk_order.proofs.SiblingLemmas.{there_with}
 use Rattle.vk_touches.specs.Touched.{only_if, is_transition_of, has_transition, last_element, transition_next, last_transition, transition_spot, spot_of}
 use Rattle.vk_touches.proofs.Touching.LastNodes.{last_found}
 use Rattle.vk_touches.proofs.Touching.Spots.{spot_stays}
@@ -65,7 +65,7 @@ pub element_there : (p : Point) (front back : List Element) (e : Element) (ns : 
 element_there p [] back e ns =
     let n : Node = element_node p (length ns) e in
     let same : length ns ≡ length ns + 0 = omega arith in
-    subst (λ (j : ℕ). Contains (with_acts p (map (Depends Barrier) back) (n ∷ ns)) (element_node p j e)) same (there_with p (map (Depends Barrier) back) (n ∷ ns) n (contains-head n ns))
+    subst (λ (j : ℕ). Contains (with_acts p (map (Depends Barrier) back) (n ∷ ns)) (element_node p j e)) same (with_acts_keeps p (map (Depends Barrier) back) (n ∷ ns) n (contains-head n ns))
 element_there p (f ∷ front) back e ns =
     let n : Node = element_node p (length ns) f in
     let same : length (n ∷ ns) + length front ≡ length ns + length (f ∷ front) = omega arith in

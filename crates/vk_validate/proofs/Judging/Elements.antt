@@ -17,9 +17,9 @@ use Rattle.vk_model.specs.Sync.Node.{Node, Depends, Barrier, with_acts, acts, no
 use Rattle.vk_model.specs.Sync.Edge.{earlier, is_element}
 use Rattle.vk_model.specs.Sync.Before.{before, IsNumbered}
 use Rattle.vk_model.proofs.Lists.Members.{contains-head}
-use Rattle.vk_model.proofs.Sync.Numbers.{numbered}
+use Rattle.vk_model.proofs.Sync.Numbers.{numbered, numbered_acts}
 use Rattle.vk_order.specs.Wide.{IsApartFrom}
-use Rattle.vk_order.proofs.SiblingLemmas.{own, before_alone, before_stays, numbered_with, earlier_with}
+use Rattle.vk_order.proofs.SiblingLemmas.{own, before_alone, before_stays, earlier_with}
 use Rattle.vk_queues.proofs.NewPoints.{ordered_new}
 use Rattle.vk_touches.specs.Touched.{next_node}
 use Rattle.vk_validate.specs.declared.halves.Changed.{Changed}
@@ -78,7 +78,7 @@ module _ (past : Past) (p : Point) (ordered : IsOrdered (p ∷ past)) (es : List
     n = own p (length (nodes_with p ns done)) e
 
     based : IsNumbered (nodes_with p ns done)
-    based = numbered_with p (map (Depends Barrier) done) ns (numbered past)
+    based = numbered_acts p (map (Depends Barrier) done) ns (numbered past)
 
     all_split : all ≡ nodes_with p (n ∷ nodes_with p ns done) rest
     all_split = all_are ∙ ap (nodes_with p ns) (sym split) ∙ with-append p ns done (e ∷ rest)
