@@ -2,5 +2,6 @@ pub mod PlainOrder
 pub mod Orders
 pub mod Growing
 pub mod Structure
+pub mod Older
 pub mod Once
 pub mod PlainStructure

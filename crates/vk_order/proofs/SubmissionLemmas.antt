@@ -12,17 +12,17 @@ use Rattle.vk_model.specs.declared.entry.Entry.TheVariants as entry
 use Rattle.vk_model.specs.Trace.Point.{Past, Point, Action, Host, Wait, Run, Signal, host_of, entries}
 use Rattle.vk_model.specs.Trace.Order.{host}
 use Rattle.vk_model.specs.Trace.Structure.{IsEarlier, by_entry, by_batch, by_turn, by_place, Follows, IsOrdered}
-use Rattle.vk_model.specs.Rules.Fault.{Comes, newest, older}
 use Rattle.vk_model.specs.Sync.Node.{Node, Act, Hosts, Runs, Depends, Barrier, SetOf, AwaitOf, acts, command_acts, nodes, with_acts}
 use Rattle.vk_model.specs.Sync.Edge.{edge, is_submit, is_command}
 use Rattle.vk_model.specs.Sync.Before.{before, Path, direct, longer, IsNumbered}
-use Rattle.vk_model.proofs.Lists.Members.{none_in, contains-cons, contains-head, contains-tail, only_one, mapped_from}
+use Rattle.vk_model.proofs.Lists.Members.{none_in, contains-cons, contains-head, only_one, mapped_from}
 use Rattle.vk_model.proofs.Lists.Truths.{no}
 use Rattle.vk_model.proofs.Sync.Numbers.{number_below, numbered, unique}
 use Rattle.vk_model.proofs.Sync.Paths.{edge_forward, path_of_before, before_of_path, target, joined}
 use Rattle.vk_model.proofs.Sync.HostActs.{submit_host}
 use Rattle.vk_model.proofs.Sync.NewNodes.{with_acts_keeps}
 use Rattle.vk_model.proofs.Trace.Structure.{entry_below, is_of_batch}
+use Rattle.vk_model.proofs.Trace.Older.{comes_has}
 use Rattle.vk_order.specs.declared.lines.Line.TheVariants.{Commands as OfCommands}
 use Rattle.vk_order.specs.Lines.{line_of}
 use Rattle.vk_order.specs.Prefixes.{submits, to_commands}
@@ -90,10 +90,6 @@ entry_node (p ∷ past) e x h = ⊎_elim
     ))
     (λ old. let found = entry_node past e x old in (found.0, with_acts_keeps p (acts p.action) (nodes past) found.0 found.1, found.2, found.3))
     (contains-cons p past (host e x) h)
-
-comes_has : (past before : Past) (p : Point) → Comes past before p → Contains past p
-comes_has past before p newest = contains-head p before
-comes_has past before p (older {past = rest} {q = r} come) = contains-tail r rest p (comes_has rest before p come)
 
 point_there : (past : Past) (m : Node) → Contains (nodes past) m → Contains past m.point × Contains (acts m.point.action) m.act
 point_there past m h = let found = member_point past m h in (comes_has past found.0 m.point found.1, found.2)

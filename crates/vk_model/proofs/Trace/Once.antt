@@ -1,5 +1,5 @@
 -- No two points of an ordered past are reported alike. Other crates cite it.
-use Rattle.std.proofs.Common.{◌≡◌, ◌⊎◌, inl, inr, ⊎_elim, ℕ, ◌<◌, [], ◌∷◌, length, None, refl, ap, sym, ◌∙◌, subst, arith}
+use Rattle.std.proofs.Common.{◌≡◌, ◌⊎◌, inl, inr, ℕ, ◌<◌, [], ◌∷◌, length, None, refl, ap, sym, ◌∙◌, subst, arith}
 use Rattle.std.specs.Prelude.{Contains}
 use Rattle.vk_model.specs.declared.entry.Entry.{Entry}
 use Rattle.vk_model.specs.declared.entry.Entry.TheVariants as entry
@@ -10,12 +10,7 @@ use Rattle.vk_model.specs.Trace.Structure.{turn, IsEarlier, by_entry, by_batch, 
 use Rattle.vk_model.specs.Rules.Fault.{Comes, newest, older}
 use Rattle.vk_model.proofs.Lists.Members.{none_in, contains-cons, contains-tail}
 use Rattle.vk_model.proofs.Trace.Structure.{entry_below, follows_at}
-
-comes_of : (past : Past) (p : Point) → Contains past p → (before : Past) × Comes past before p
-comes_of [] p c = absurd (none_in p c)
-comes_of (q ∷ past) p c = ⊎_elim
-    (λ same. (past, subst (λ (m : Point). Comes (q ∷ past) past m) same newest))
-    (λ old. let h = comes_of past p old in (h.0, older h.1)) (contains-cons q past p c)
+use Rattle.vk_model.proofs.Trace.Older.{comes_of}
 
 pub was_before : (past before : Past) (p q : Point) → Comes past before p → Contains before q → Contains past q
 was_before past before p q newest c = contains-tail p before q c
