@@ -8,11 +8,12 @@ use Rattle.vk_model.specs.World.Bytes.{Byte}
 use Rattle.vk_model.specs.Sync.Node.{Node, Act, Hosts, Waits, Signals, Runs, Depends, nodes, same_node}
 use Rattle.vk_model.specs.Sync.Edge.{edge, is_host, is_submit}
 use Rattle.vk_model.specs.Sync.Before.{before}
-use Rattle.vk_model.specs.Sync.Seen.{available_by, makes_writes_available, passes, flushes}
+use Rattle.vk_model.specs.Sync.Seen.{available_by, passes, flushes}
 use Rattle.vk_model.proofs.Lists.Members.{member_passes, some_member, contains-head, only_one}
-use Rattle.vk_model.proofs.Lists.Truths.{no, clash, bool_same}
+use Rattle.vk_model.proofs.Lists.Truths.{clash, bool_same}
 use Rattle.vk_model.proofs.Sync.Numbers.{numbered, number_below, unique}
 use Rattle.vk_model.proofs.Sync.Paths.{leads_on}
+use Rattle.vk_model.proofs.Sync.HostActs.{submit_host, flush_host, same_available}
 use Rattle.vk_order.specs.Lines.{line_of, class_of}
 use Rattle.vk_order.specs.Prefixes.{LinePrefix}
 use Rattle.vk_order.specs.Inner.Leads.{is_of_sets}
@@ -22,27 +23,6 @@ use Rattle.vk_links.specs.declared.availability.First.{First}
 use Rattle.vk_links.specs.Links.{cached, needs_flush, flushes_after, makes_available, is_available_at, HasNone, IsFirstNode}
 use Rattle.vk_links.specs.Inner.Availability.{IsAvailableFrom, AreFirsts, MakesAvailable, IsListed, Represents}
 use Rattle.vk_links.proofs.EdgeLemmas.{edge_from_command, host_before, line_is}
-
-same_available : (cached : Byte → Bool) (ns : List Node) (p : Node) (b : Byte) (a : Act) → makes_writes_available (λ c. false) [] p b a ≡ makes_writes_available cached ns p b a
-same_available cached ns p b (Depends r e) = refl
-same_available cached ns p b (Signals s) = refl
-same_available cached ns p b (Hosts x) = refl
-same_available cached ns p b (Waits s) = refl
-same_available cached ns p b (Runs c) = refl
-
-submit_host : (a : Act) → is_submit a ≡ true → is_host a ≡ true
-submit_host (Hosts x) h = refl
-submit_host (Waits s) h = no h
-submit_host (Signals s) h = no h
-submit_host (Runs c) h = no h
-submit_host (Depends r e) h = no h
-
-flush_host : (a : Act) (b : Byte) → flushes a b ≡ true → is_host a ≡ true
-flush_host (Hosts x) b h = refl
-flush_host (Waits s) b h = no h
-flush_host (Signals s) b h = no h
-flush_host (Runs c) b h = no h
-flush_host (Depends r e) b h = no h
 
 module _ (past : Past) (w : Node) (cw : Contains (nodes past) w) (b : Byte) where
   abbrev all : List Node

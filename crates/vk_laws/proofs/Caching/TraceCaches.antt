@@ -26,6 +26,7 @@ use Rattle.vk_model.proofs.Lists.Truths.{clash, six}
 use Rattle.vk_laws.proofs.Nodes.NoHazard.{edge_before, Reaches, reaches_join, or_before, reaches_before, before_reaches}
 use Rattle.vk_model.proofs.Sync.Numbers.{numbered, number_below}
 use Rattle.vk_model.proofs.Sync.Paths.{leads_on}
+use Rattle.vk_model.proofs.Sync.HostActs.{submit_host}
 
 -- ---- kinds of events
 
@@ -35,13 +36,6 @@ submit_event (Hosts x) h = refl
 submit_event (Waits s) h = refl
 submit_event (Signals s) h = refl
 submit_event (Depends r e) h = refl
-
-pub submit_host : (a : Act) → IsTrue (is_submit a) → is_host a ≡ true
-submit_host (Runs c) h = absurd cc
-submit_host (Hosts x) h = refl
-submit_host (Waits s) h = absurd cc
-submit_host (Signals s) h = absurd cc
-submit_host (Depends r e) h = absurd cc
 
 wait_queue : (a : Act) → IsTrue (is_wait a) → is_host a ≡ false
 wait_queue (Runs c) h = absurd cc

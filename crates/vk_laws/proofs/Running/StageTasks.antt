@@ -25,7 +25,8 @@ use Rattle.vk_laws.specs.DefinedRuns.{is_event, act_happened, has_happened}
 use Rattle.vk_laws.proofs.Nodes.Steady.{new_ids, live_ids}
 use Rattle.vk_model.proofs.Lists.Members.{map_has, numbers_have, all_passes}
 use Rattle.vk_model.proofs.Lists.Truths.{implied, six}
-use Rattle.vk_laws.proofs.Caching.TraceCaches.{submit_host, never_holds}
+use Rattle.vk_laws.proofs.Caching.TraceCaches.{never_holds}
+use Rattle.vk_model.proofs.Sync.HostActs.{submit_host}
 use Rattle.vk_model.proofs.Trace.Growing.{Grows}
 use Rattle.vk_laws.proofs.Nodes.Prefixes.{is_old, old_has, same_before, same_pieces}
 use Rattle.vk_model.proofs.Sync.Numbers.{number_below, numbered}
