@@ -1,19 +1,20 @@
 -- Commands that aren't known complete, by the rows of their nodes.
-use Rattle.std.proofs.Common.{◌≡◌, ◌<◌, ◌≤◌, ◌+◌, ℕ, List, [], ◌∷◌, length, get_or, Bool, true, false, not, ◌&&◌, refl, ap, sym, ◌∙◌, subst, arith}
-use Rattle.std.specs.Prelude.{Contains, nat_lt, nat_le}
+use Rattle.std.proofs.Common.{◌≡◌, ◌<◌, ◌+◌, ℕ, List, [], ◌∷◌, length, get_or, Bool, true, false, not, ◌&&◌, refl, ap, sym, ◌∙◌, subst, arith}
+use Rattle.std.specs.Prelude.{Contains, nat_lt}
 use Rattle.std.specs.List.{filter, list_any, list_all}
-use Rattle.std.proofs.lemmas.Bool.{le-leb, lt-leb, lt-ltb, false_from_ne_true}
+use Rattle.std.proofs.lemmas.Bool.{le-leb, lt-ltb, false_from_ne_true}
 use Rattle.std.proofs.lemmas.Option.{slice_get_read}
 use Rattle.std.proofs.Math.Bool.{and-false}
 use Rattle.vk_model.specs.declared.entry.Entry.{Entry}
 use Rattle.vk_model.specs.Basics.{among}
 use Rattle.vk_model.specs.Trace.Point.{Past, Point, Host}
 use Rattle.vk_model.specs.Sync.Node.{Node, Hosts, acts, nodes, with_acts, next_nodes, same_place}
-use Rattle.vk_model.specs.Sync.Before.{before, IsNumbered}
+use Rattle.vk_model.specs.Sync.Before.{before}
 use Rattle.vk_model.specs.Sync.Complete.{named_by_act, nodes_for}
 use Rattle.vk_model.proofs.Lists.Members.{only_one, contains-head, contains-tail, filter_has, all_passes, member_passes, place_has}
 use Rattle.vk_model.proofs.Lists.Truths.{clash}
 use Rattle.vk_model.proofs.Sync.Numbers.{numbered}
+use Rattle.vk_model.proofs.Sync.NewNodes.{low_numbers}
 use Rattle.vk_order.specs.declared.acts.Row.{Row}
 use Rattle.vk_order.specs.PointViews.{node_of, nodes_after}
 use Rattle.vk_order.proofs.NamedLemmas.{node_there}
@@ -23,10 +24,6 @@ use Rattle.vk_pass_facts.specs.declared.timeline.Timeline.{Timeline}
 use Rattle.vk_pass_facts.specs.Inner.Uses.{IsAt, IsIncomplete, IsTimeline, uses_at}
 
 -- ---- the node of a host entry that comes next
-
-low_numbers : (k : ℕ) (ns : List Node) → IsNumbered ns → length ns ≤ k → filter (λ n. nat_le k n.number) ns ≡ []
-low_numbers k [] all le = refl
-low_numbers k (n ∷ ns) all le = let new : n.number ≡ length ns = all.0 in rw (lt-leb k n.number (omega arith)) (low_numbers k ns all.1 (omega arith))
 
 abbrev pub host_node : Past → Point → Entry → Node
 host_node past p x = record { number = length (nodes past); point = p; act = Hosts x }

@@ -23,6 +23,7 @@ use Rattle.vk_model.proofs.Lists.Members.{none_in, contains-cons, contains-head,
 use Rattle.vk_model.proofs.Lists.Truths.{clash}
 use Rattle.vk_model.proofs.Trace.Once.{come_once}
 use Rattle.vk_model.proofs.Trace.Structure.{entry_below, is_of_batch}
+use Rattle.vk_model.proofs.Sync.NewNodes.{with_acts_keeps}
 use Rattle.vk_laws.proofs.Living.Coming.{until_there}
 use Rattle.vk_laws.proofs.Living.Submitted.{is_submitted}
 use Rattle.vk_laws.proofs.Living.Unended.{runs_of, alike}
@@ -236,15 +237,11 @@ acts_elsewhere : (p x : Point) (r : ℕ) → same_place p x ≡ false → (as' :
 acts_elsewhere p x r other [] ns = refl
 acts_elsewhere p x r other (a ∷ more) ns = acts_elsewhere p x r other more (record { number = length ns; point = p; act = a } ∷ ns) ∙ rw other refl
 
-still_there : (p : Point) (more : List Act) (ns : List Node) (n : Node) → Contains ns n → Contains (with_acts p more ns) n
-still_there p [] ns n c = c
-still_there p (a ∷ more) ns n c = still_there p more _ n (contains-tail _ ns n c)
-
 -- those of a command
 act_there : (p : Point) (as' : List Act) (ns : List Node) (a : Act) → Contains as' a → (n : Node) × Contains (with_acts p as' ns) n × (n.act ≡ a) × (n.point ≡ p)
 act_there p [] ns a c = absurd (none_in a c)
 act_there p (b ∷ more) ns a c = let n : Node = record { number = length ns; point = p; act = b } in ⊎_elim
-    (λ same. (n, still_there p more (n ∷ ns) n (contains-head n ns), same, refl))
+    (λ same. (n, with_acts_keeps p more (n ∷ ns) n (contains-head n ns), same, refl))
     (λ later. act_there p more (n ∷ ns) a later)
     (contains-cons b more a c)
 

@@ -18,7 +18,7 @@ use Rattle.vk_model.specs.Rules.Passes.{pool_of_defrag, passes_busy, breaks_pass
 use Rattle.vk_model.specs.Rules.Hazards.{ends_used, breaks_in_use}
 use Rattle.vk_model.specs.Rules.Table.{breaks}
 use Rattle.vk_model.proofs.Lists.Members.{contains-head, contains-tail, map_has, member_passes, some_member}
-use Rattle.vk_laws.proofs.Nodes.NoHazard.{found_new}
+use Rattle.vk_model.proofs.Sync.NewNodes.{found_new}
 use Rattle.vk_laws.proofs.Living.Alive.{IsAlive, is_alive, among_live, host_names_live, host_lists_own}
 
 -- the node of a host entry that comes next

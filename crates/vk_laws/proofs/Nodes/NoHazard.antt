@@ -1,13 +1,12 @@
 -- A trace without a fault has no hazard between two nodes, and what is seen is before.
-use Rattle.std.proofs.Common.{◌≡◌, ◌⊎◌, inl, inr, ⊎_elim, ◌<◌, ◌≤◌, [], ◌∷◌, ◌++◌, length, Bool, ◌&&◌, ◌||◌, not, IsTrue, refl, ap, sym, ◌∙◌, subst, arith, reverse}
-use Rattle.std.specs.Prelude.{nat_le, Contains}
-use Rattle.std.specs.List.{list_any, filter}
-use Rattle.std.proofs.lemmas.Bool.{lt-ltb, le-leb, eqb-true, and_parts, or_cases, and_from}
-use Rattle.std.proofs.lemmas.List.Sorted.{list_any-IsPermutation, IsPermutation-reverse}
+use Rattle.std.proofs.Common.{◌≡◌, ◌⊎◌, inl, inr, ⊎_elim, ◌<◌, ◌≤◌, [], ◌∷◌, ◌++◌, length, Bool, ◌&&◌, ◌||◌, not, IsTrue, refl, ap, sym, ◌∙◌, subst, arith}
+use Rattle.std.specs.Prelude.{Contains}
+use Rattle.std.specs.List.{list_any}
+use Rattle.std.proofs.lemmas.Bool.{lt-ltb, eqb-true, and_parts, or_cases, and_from}
 use Rattle.vk_model.specs.World.Bytes.{Byte, resource_at}
 use Rattle.vk_model.specs.Trace.Objects.{is_cached}
 use Rattle.vk_model.specs.Trace.Point.{Past, Point}
-use Rattle.vk_model.specs.Sync.Node.{Node, Act, Hosts, Waits, Signals, Runs, Depends, nodes, next_nodes, same_node}
+use Rattle.vk_model.specs.Sync.Node.{Node, Act, Hosts, Waits, Signals, Runs, Depends, nodes, same_node}
 use Rattle.vk_model.specs.Sync.Edge.{edge, is_host}
 use Rattle.vk_model.specs.Sync.Before.{before, direct}
 use Rattle.vk_model.specs.Sync.Seen.{Access, Read, Write, seen, available_by, visible_by}
@@ -15,9 +14,10 @@ use Rattle.vk_model.specs.Sync.Access.{reads, writes, is_in, share, precedes, wa
 use Rattle.vk_model.specs.Rules.Fault.{Comes, newest, older}
 use Rattle.vk_model.specs.Laws.{BeforeIsPath, BeforeIsTransitive, GrowthKeeps, Keeps}
 use Rattle.vk_laws.specs.Trace.{HasNoHazard}
-use Rattle.vk_model.proofs.Lists.Members.{member_passes, some_member, any_filter}
+use Rattle.vk_model.proofs.Lists.Members.{member_passes, some_member}
 use Rattle.vk_model.proofs.Lists.Truths.{unless}
 use Rattle.vk_model.proofs.Sync.Numbers.{numbered, unique}
+use Rattle.vk_model.proofs.Sync.NewNodes.{found_new}
 
 -- ---- orders
 
@@ -96,11 +96,6 @@ module _ (keeps : GrowthKeeps) (all past : Past) (p : Point) (comes : Comes all 
 
   pub seen_in_all : (cached : Byte → Bool) (x y : Node) (k : Access) (b : Byte) → Contains (nodes (p ∷ past)) y → IsTrue (seen cached (nodes (p ∷ past)) x y k b) → IsTrue (seen cached (nodes all) x y k b)
   seen_in_all cached x y k b c h = whole.visibilities cached x y k b c ∙ h
-
-pub found_new : (f : Node → Bool) (past : Past) (p : Point) (y : Node) → Contains (nodes (p ∷ past)) y → length (nodes past) ≤ y.number → IsTrue (f y) → IsTrue (list_any f (next_nodes past p))
-found_new f past p y c le h =
-    let new = filter (λ n. nat_le (length (nodes past)) n.number) (nodes (p ∷ past)) in
-    sym (list_any-IsPermutation f new (reverse new) (IsPermutation-reverse new)) ∙ any_filter f (λ n. nat_le (length (nodes past)) n.number) (nodes (p ∷ past)) y c (le-leb (length (nodes past)) y.number le) h
 
 module _ (past : Past) (p : Point) (x y : Node) (cx : Contains (nodes (p ∷ past)) x) (cy : Contains (nodes (p ∷ past)) y) (new : length (nodes past) ≤ y.number) (first : IsTrue (precedes x y)) where
   found_hazard : (kind : Past → Node → Node → Bool) → IsTrue (kind (p ∷ past) x y) → IsTrue (hazard kind past p)

@@ -1,14 +1,14 @@
 -- The nodes of a point that comes next: one for each act, numbered on.
 use Rattle.std.proofs.Common.{◌≡◌, ◌≤◌, ◌+◌, ℕ, List, [], ◌∷◌, ◌++◌, length, reverse, Bool, nat_le, refl, ap, sym, ◌∙◌, arith, append_assoc}
 use Rattle.std.specs.List.{filter}
-use Rattle.std.proofs.lemmas.Bool.{lt-leb, le-leb}
+use Rattle.std.proofs.lemmas.Bool.{le-leb}
 use Rattle.std.proofs.lemmas.List.{reverse-reverse}
 use Rattle.std.proofs.lemmas.Grind.{reverse_onto}
 use Rattle.std.proofs.lemmas.List.Elements.{filter-append}
 use Rattle.vk_model.specs.Trace.Point.{Past, Point}
 use Rattle.vk_model.specs.Sync.Node.{Node, Act, acts, nodes, with_acts, next_nodes}
-use Rattle.vk_model.specs.Sync.Before.{IsNumbered}
 use Rattle.vk_model.proofs.Sync.Numbers.{numbered}
+use Rattle.vk_model.proofs.Sync.NewNodes.{low_numbers}
 
 -- acts as nodes of a point, from number k on
 abbrev pub lined : Point → ℕ → List Act → List Node
@@ -25,10 +25,6 @@ with_acts-lined p (a ∷ more) ns =
     ∙ ap (λ k. reverse (lined p k more) ++ (n ∷ ns)) longer
     ∙ sym (append_assoc (reverse rest) (n ∷ []) ns)
     ∙ ap (λ (l : List Node). l ++ ns) (sym (reverse_onto rest n []))
-
-low_numbers : (k : ℕ) (ns : List Node) → IsNumbered ns → length ns ≤ k → filter (λ n. nat_le k n.number) ns ≡ []
-low_numbers k [] all le = refl
-low_numbers k (n ∷ ns) all le = let new : n.number ≡ length ns = all.0 in rw (lt-leb k n.number (omega arith)) (low_numbers k ns all.1 (omega arith))
 
 high_numbers : (p : Point) (k j : ℕ) (more : List Act) → k ≤ j → filter (λ n. nat_le k n.number) (reverse (lined p j more)) ≡ reverse (lined p j more)
 high_numbers p k j [] le = refl
