@@ -3,17 +3,19 @@ use Rattle.std.proofs.Common.{◌≡◌, ℕ, ◌+◌, List, [], ◌∷◌, ◌+
 use Rattle.std.proofs.lemmas.List.{length-reverse}
 use Rattle.vk_model.specs.declared.entry.Entry.{Entry}
 use Rattle.vk_model.specs.Laws.{NoFaultIsSound, OrderIsOrdered, OrderHasEntries}
-use Rattle.vk_model.specs.Rules.Fault.{Comes, older, IsUnbroken}
-use Rattle.vk_model.specs.Trace.Point.{Past, Point, entries}
+use Rattle.vk_model.specs.Rules.Fault.{IsUnbroken}
+use Rattle.vk_model.specs.Trace.Point.{Past, entries}
 use Rattle.vk_model.specs.Trace.Order.{Front, order, order_from, after_entry}
 use Rattle.vk_model.specs.Trace.Structure.{IsOrdered}
 use Rattle.vk_model.specs.Run.Runs.{Stage, past_with}
 use Rattle.vk_model.proofs.Trace.Growing.{order_append, order_grows}
+use Rattle.vk_model.proofs.Trace.Older.{ordered_older}
 use Rattle.vk_laws.specs.DefinedRuns.{FollowsTrace}
 use Rattle.vk_device.specs.Led.{IsSoundTrace}
 use Rattle.vk_device.specs.Inner.Clean.{IsClean}
 use Rattle.vk_device.specs.Inner.Fits.{AllFit}
 use Rattle.vk_device.proofs.Clean.{fits_clean, clean_newer}
+use Rattle.vk_offers.proofs.Coming.{unbroken_before}
 
 abbrev nothing : Front
 nothing = record { past = []; waiting = [] }
@@ -35,19 +37,6 @@ counted has t s st =
     let all : entries (order st.gone) ≡ reverse st.gone = has st.gone in
     st.counted ∙ sym (length-reverse st.gone) ∙ ap length (sym all) ∙ ap (λ (f : Front). length (entries f.past)) (sym st.front)
 
--- ---- what is older
-
-pub comes_newer : (newer past before : Past) (p : Point) → Comes past before p → Comes (newer ++ past) before p
-comes_newer [] past before p comes = comes
-comes_newer (q ∷ newer) past before p comes = older (comes_newer newer past before p comes)
-
-pub ordered_older : (newer past : Past) → IsOrdered (newer ++ past) → IsOrdered past
-ordered_older [] past ordered = ordered
-ordered_older (q ∷ newer) past ordered = ordered_older newer past ordered.1
-
-pub unbroken_older : (newer past : Past) → IsUnbroken (newer ++ past) → IsUnbroken past
-unbroken_older newer past sound before p r broken = sound before p r (comes_newer newer past before p broken.0, broken.1)
-
 -- ---- a trace without a fault
 
 pub unbroken : NoFaultIsSound → (t : List Entry) → IsSoundTrace t → IsUnbroken (order t)
@@ -58,7 +47,7 @@ clean law t sound = record { sound = λ before p r comes broken. unbroken law t 
 
 module _ (law : NoFaultIsSound) (ordered : OrderIsOrdered) (t : List Entry) (s : Stage) (x : Entry) (xs : List Entry) (st : FollowsTrace t s) (left : s.left ≡ x ∷ xs) (sound : IsSoundTrace t) where
   pub next_unbroken : IsUnbroken (past_with s x)
-  next_unbroken = let p = prefix t s x xs st left in unbroken_older p.0 (past_with s x) (subst (λ (all : Past). IsUnbroken all) p.1 (unbroken law t sound))
+  next_unbroken = let p = prefix t s x xs st left in unbroken_before (order t) p.0 (past_with s x) p.1 (unbroken law t sound)
 
   pub next_ordered : IsOrdered (past_with s x)
   next_ordered = let p = prefix t s x xs st left in ordered_older p.0 (past_with s x) (subst (λ (all : Past). IsOrdered all) p.1 (ordered t))

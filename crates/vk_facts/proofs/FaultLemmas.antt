@@ -13,7 +13,7 @@ use Rattle.vk_model.specs.Laws.{IsFirst}
 use Rattle.vk_model.proofs.Rules.Fault.{first_of_fault}
 use Rattle.vk_model.proofs.Trace.Once.{come_once}
 use Rattle.vk_model.proofs.Trace.Structure.{order_ordered}
-use Rattle.vk_queues.proofs.NewPoints.{comes_in}
+use Rattle.vk_model.proofs.Trace.Older.{comes_has}
 use Rattle.vk_past.specs.Until.{IsNowhere, IsUntil}
 use Rattle.vk_facts.specs.declared.facts.Fact.{Fact}
 use Rattle.vk_model.specs.Sync.Node.{nodes}
@@ -32,13 +32,13 @@ same_point all b p newest c q there ordered e = go (p ∷ b) c q there refl e
     go l c q newest is e = (cc, cc)
     go l c q (older {past = rest} {q = r} come) is e =
         let same : rest ≡ b = cc in
-        absurd (come_once (p ∷ b) b p q ordered newest (comes_in b c q (subst (λ (m : Past). Comes m c q) same come)) (sym e))
+        absurd (come_once (p ∷ b) b p q ordered newest (comes_has b c q (subst (λ (m : Past). Comes m c q) same come)) (sym e))
 same_point all b p (older {past = rest} {q = r} come) c q there ordered e = go (r ∷ rest) c q there refl e (λ d. same_point rest b p come c q d ordered.1 e)
   where
     go : (l c : Past) (q : Point) → Comes l c q → l ≡ r ∷ rest → at_of p ≡ at_of q → (Comes rest c q → (b ≡ c) × (p ≡ q)) → (b ≡ c) × (p ≡ q)
     go l c q newest is e next =
         let same : q ≡ r = cc in
-        absurd (come_once (r ∷ rest) rest r p ordered newest (comes_in rest b p come) (e ∙ ap at_of same))
+        absurd (come_once (r ∷ rest) rest r p ordered newest (comes_has rest b p come) (e ∙ ap at_of same))
     go l c q (older {past = more} {q = s} d) is e next = let same : more ≡ rest = cc in next (subst (λ (m : Past). Comes m c q) same d)
 
 -- the point that a trace is refused at

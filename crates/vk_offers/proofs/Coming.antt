@@ -1,5 +1,5 @@
 -- Each point of an ordered past without a fault may come next.
-use Rattle.std.proofs.Common.{◌≡◌, ⊎_elim, ℕ, ◌<◌, List, [], ◌∷◌, ◌++◌, length, Bool, true, false, IsTrue, refl, ap, sym, subst, arith}
+use Rattle.std.proofs.Common.{◌≡◌, ℕ, ◌<◌, List, [], ◌∷◌, ◌++◌, length, Bool, true, false, IsTrue, refl, ap, sym, subst, arith}
 use Rattle.std.specs.Prelude.{Contains, nat_lt}
 use Rattle.std.proofs.lemmas.Bool.{ltb-false}
 use Rattle.vk_model.specs.declared.command.Cmd.{Cmd}
@@ -11,22 +11,15 @@ use Rattle.vk_model.specs.Trace.Point.{Past, Point, Run, host_of}
 use Rattle.vk_model.specs.Trace.Order.{host}
 use Rattle.vk_model.specs.Trace.Structure.{IsOfBatch, Follows, IsOrdered}
 use Rattle.vk_model.specs.Sync.Node.{Act, Hosts, Waits, Signals, Runs, Depends}
-use Rattle.vk_model.specs.Rules.Fault.{Comes, newest, older, IsUnbroken}
+use Rattle.vk_model.specs.Rules.Fault.{Comes, IsUnbroken}
 use Rattle.vk_model.specs.Rules.Table.{breaks}
 use Rattle.vk_model.specs.Run.Pieces.{pieces}
-use Rattle.vk_model.proofs.Lists.Members.{none_in, contains-cons}
 use Rattle.vk_model.proofs.Trace.Structure.{follows_at, is_of_batch}
+use Rattle.vk_model.proofs.Trace.Older.{comes_of}
 use Rattle.vk_queues.specs.Laws.{OrderedIsNew}
 use Rattle.vk_laws.proofs.Nodes.Prefixes.{same_pieces}
 use Rattle.vk_laws.proofs.Nodes.Steady.{new_ids, live_ids, comes_here, comes_within}
 use Rattle.vk_offers.specs.IsOffers.{is_run, piece_count, PiecesStay, ComesNext}
-
--- a point that is there came once
-came : (past : Past) (p : Point) → Contains past p → (before : Past) × Comes past before p
-came [] p c = absurd (none_in p c)
-came (q ∷ past) p c = ⊎_elim
-    (λ same. (past, subst (λ (m : Point). Comes (q ∷ past) past m) same newest))
-    (λ old. let h = came past p old in (h.0, older h.1)) (contains-cons q past p c)
 
 -- the points before one break no rule either
 pub unbroken_before : (all newer past : Past) → all ≡ newer ++ past → IsUnbroken all → IsUnbroken past
@@ -47,7 +40,7 @@ pieces_stay past p sound n c = go n.act refl
 on_queue : (past : Past) (e q : ℕ) (bs : List Batch) → IsUnbroken past → Contains past (host e (entry.Submit q bs)) → q < 4
 unfolding breaks
 on_queue past e q bs sound c =
-    let at = came past (host e (entry.Submit q bs)) c in
+    let at = comes_of past (host e (entry.Submit q bs)) c in
     go (nat_lt 3 q) refl (λ h. sound at.0 (host e (entry.Submit q bs)) rule.Queue (at.1, h))
   where
     go : (b : Bool) → nat_lt 3 q ≡ b → (IsTrue (nat_lt 3 q) → ⊥) → q < 4

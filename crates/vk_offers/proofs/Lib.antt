@@ -3,6 +3,6 @@ pub mod Offering
 pub mod Growing
 mod Finishing
 pub mod Steps
-mod Coming
+pub mod Coming
 mod Waiting
 pub mod PiecesLeft

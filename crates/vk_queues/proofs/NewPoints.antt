@@ -1,6 +1,6 @@
 -- In an ordered past no two commands are at one place. Other crates cite it.
 use Rattle.std.proofs.Common.{◌≡◌, ℕ, zero, suc, ◌+◌, List, [], ◌∷◌, ◌++◌, length, Bool, true, false, Some, refl, ap, sym, ◌∙◌, subst, take, slice_get, arith}
-use Rattle.std.specs.Prelude.{Contains, ◌&&◌, ◌==◌}
+use Rattle.std.specs.Prelude.{◌&&◌, ◌==◌}
 use Rattle.std.proofs.lemmas.Bool.{and_parts, eqb-true}
 use Rattle.vk_model.specs.declared.command.Cmd.{Cmd}
 use Rattle.vk_model.specs.declared.entry.Entry.{Entry}
@@ -9,10 +9,10 @@ use Rattle.vk_model.specs.Trace.Order.{Front, after_entry, order}
 use Rattle.vk_model.specs.Trace.Structure.{IsOrdered}
 use Rattle.vk_model.specs.Sync.Node.{nodes, same_place}
 use Rattle.vk_model.specs.Rules.Fault.{Comes, newest, older}
-use Rattle.vk_model.proofs.Lists.Members.{contains-head, contains-tail}
 use Rattle.vk_model.proofs.Trace.Growing.{order_append}
 use Rattle.vk_model.proofs.Trace.Once.{come_once}
 use Rattle.vk_model.proofs.Trace.Structure.{order_ordered}
+use Rattle.vk_model.proofs.Trace.Older.{comes_has}
 use Rattle.vk_order.specs.declared.point.Point.{Point as Given}
 use Rattle.vk_order.specs.PointViews.{point_of}
 use Rattle.vk_order.specs.Queries.{IsNew}
@@ -20,10 +20,6 @@ use Rattle.vk_order.specs.Places.{IsElsewhere, IsApart}
 use Rattle.vk_order.proofs.ElementPlaces.{elsewhere}
 use Rattle.vk_queues.specs.IsWaiting.{front_of}
 use Rattle.vk_queues.specs.PointViews.{past_after, past_of}
-
-pub comes_in : (past before : Past) (p : Point) → Comes past before p → Contains past p
-comes_in past before p newest = contains-head p before
-comes_in past before p (older {past = rest} {q = q} come) = contains-tail q rest p (comes_in rest before p come)
 
 -- commands at one place are reported alike
 alike : (p q : Point) (c d : Cmd) → p.action ≡ Run c → q.action ≡ Run d → same_place q p ≡ true → at_of q ≡ at_of p
@@ -36,7 +32,7 @@ pub is_elsewhere : (past before : Past) (p : Point) → IsOrdered past → Comes
 is_elsewhere past before p ordered come = λ c is_p earlier q d there is_q. go c is_p earlier q d there is_q (same_place q p) refl where
   go : (c : Cmd) → p.action ≡ Run c → (earlier : Past) (q : Point) (d : Cmd) → Comes before earlier q → q.action ≡ Run d → (b : Bool) → same_place q p ≡ b → b ≡ false
   go c is_p earlier q d there is_q false e = refl
-  go c is_p earlier q d there is_q true e = absurd (come_once past before p q ordered come (comes_in before earlier q there) (alike p q c d is_p is_q e))
+  go c is_p earlier q d there is_q true e = absurd (come_once past before p q ordered come (comes_has before earlier q there) (alike p q c d is_p is_q e))
 
 pub ordered_new : (past before : Past) (p : Point) → IsOrdered past → Comes past before p → IsNew p (nodes before)
 ordered_new past before p ordered come = λ c is m at element. elsewhere before p c is (is_elsewhere past before p ordered come) m at element

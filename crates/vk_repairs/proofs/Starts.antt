@@ -19,7 +19,8 @@ use Rattle.vk_model.proofs.Trace.Once.{come_once}
 use Rattle.vk_order.specs.declared.point.Point.{Point as Given}
 use Rattle.vk_order.specs.PointViews.{point_of, action_of}
 use Rattle.vk_queues.specs.PointViews.{past_of, add}
-use Rattle.vk_queues.proofs.NewPoints.{comes_in, comes_at}
+use Rattle.vk_model.proofs.Trace.Older.{comes_has}
+use Rattle.vk_queues.proofs.NewPoints.{comes_at}
 use Rattle.vk_history.specs.Supported.{is_supported, is_supported_action}
 use Rattle.vk_history.proofs.Points.Pasts.{supported-next}
 use Rattle.vk_repairs.specs.Starts.{sound_start, IsAmong}
@@ -72,8 +73,8 @@ at_fault (p ∷ past) f some = elim (fault_cases past p f some) [
 -- points that are reported alike have the same points before them
 one_place : (past first second : Past) (p q : Point) → IsOrdered past → Comes past first p → Comes past second q → at_of p ≡ at_of q → first ≡ second
 one_place past first second p q ordered newest newest same = refl
-one_place past first second p q ordered newest (older {past = rest} come) same = absurd (come_once past rest p q ordered newest (comes_in rest second q come) (sym same))
-one_place past first second p q ordered (older {past = rest} come) newest same = absurd (come_once past rest q p ordered newest (comes_in rest first p come) same)
+one_place past first second p q ordered newest (older {past = rest} come) same = absurd (come_once past rest p q ordered newest (comes_has rest second q come) (sym same))
+one_place past first second p q ordered (older {past = rest} come) newest same = absurd (come_once past rest q p ordered newest (comes_has rest first p come) same)
 one_place past first second p q ordered (older {past = rest} come) (older other) same = one_place rest first second p q ordered.1 come other same
 
 -- ---- points one after another
@@ -85,7 +86,7 @@ module _ (ps : List Given) (k : ℕ) (p : Given) (at : slice_get ps k ≡ Some p
       one_place (past_of ps) (past_of (take k ps)) a.before (point_of p) a.point ordered (comes_at [] ps k p at) a.comes (same ∙ sym a.same) ∙ sym a.start
 
   pub among : (reported : At) → at_of (point_of p) ≡ reported → IsAmong (past_of ps) reported
-  among reported same = record { point = point_of p; there = comes_in (past_of ps) (past_of (take k ps)) (point_of p) (comes_at [] ps k p at); same = same }
+  among reported same = record { point = point_of p; there = comes_has (past_of ps) (past_of (take k ps)) (point_of p) (comes_at [] ps k p at); same = same }
 
   pub past_next : past_of (take (k + 1) ps) ≡ point_of p ∷ past_of (take k ps)
   past_next =
