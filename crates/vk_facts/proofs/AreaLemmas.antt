@@ -18,14 +18,14 @@ use Rattle.vk_model.specs.World.ByteWrites.{buffer_texel, row_texels, layer_rows
 use Rattle.vk_model.specs.Sync.Access.{bytes_of}
 use Rattle.vk_model.proofs.Lists.Truths.{no, bool_same}
 use Rattle.vk_model.proofs.Lists.Members.{map_has, mapped_from, flat_from, flat_has}
-use Rattle.vk_model.proofs.Lists.Grids.{grid_from}
+use Rattle.vk_model.proofs.Lists.Grids.{grid_from, grid_has, below_has}
 use Rattle.vk_model.proofs.Lists.Rows.{flat_more}
 use Rattle.vk_facts.specs.declared.areas.Area.{Area}
 use Rattle.vk_facts.specs.declared.areas.Area.TheVariants as area
 use Rattle.vk_facts.specs.declared.areas.Texels.{Texels}
 use Rattle.vk_facts.specs.Areas.{has, is_between, AreAreas, IsNumbered}
 use Rattle.vk_facts.specs.Inner.Parts.{row_bytes, texel_bytes, level_part}
-use Rattle.vk_facts.proofs.Members.{below_has, below_from, grid_has, one_area, no_area, areas_same, areas_append}
+use Rattle.vk_facts.proofs.Members.{below_from, one_area, no_area, areas_same, areas_append}
 
 -- ---- numbers between
 

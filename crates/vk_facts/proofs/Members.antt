@@ -1,17 +1,17 @@
 -- Bytes among others, and what areas have.
-use Rattle.std.proofs.Common.{◌≡◌, ⊎_elim, ℕ, ◌+◌, ◌<◌, List, [], ◌∷◌, ◌++◌, map, Bool, true, false, ◌||◌, Some, refl, sym, ◌∙◌, subst, arith}
+use Rattle.std.proofs.Common.{◌≡◌, ⊎_elim, ℕ, ◌<◌, List, [], ◌∷◌, ◌++◌, Bool, true, false, ◌||◌, Some, refl, sym, ◌∙◌, subst, arith}
 use Rattle.std.specs.Prelude.{Contains}
 use Rattle.std.specs.List.{flat_map}
 use Rattle.std.proofs.lemmas.Bool.{eq-eqb, or_left, or_right}
 use Rattle.std.proofs.lemmas.List.Folds.{list_any-append}
 use Rattle.std.proofs.lemmas.List.Elements.{Contains-append_left, Contains-append_right, Contains-append_cases}
 use Rattle.std.proofs.Math.Bool.{or-false}
-use Rattle.vk_model.specs.Basics.{below, grid}
+use Rattle.vk_model.specs.Basics.{below}
 use Rattle.vk_model.specs.World.Bytes.{Byte, in_buffer, in_image, same_byte}
 use Rattle.vk_model.specs.World.ByteWrites.{ByteWrite}
 use Rattle.vk_model.specs.Sync.Access.{is_in, origin, origins, targets}
 use Rattle.vk_model.proofs.Lists.Truths.{no}
-use Rattle.vk_model.proofs.Lists.Members.{none_in, member_passes, some_member, map_has, mapped_from, flat_from, flat_has, chosen_has, chosen_from, numbers_have, range_from}
+use Rattle.vk_model.proofs.Lists.Members.{none_in, member_passes, some_member, map_has, mapped_from, flat_from, flat_has, chosen_has, chosen_from, range_from}
 use Rattle.vk_model.proofs.World.BytePlaces.{buffer_same, image_same}
 use Rattle.vk_facts.specs.declared.areas.Area.{Area}
 use Rattle.vk_facts.specs.Areas.{has, have, AreAreas, IsNumbered}
@@ -37,18 +37,8 @@ is_in_has b bs c = member_passes (same_byte b) bs b c (same_itself b)
 
 -- ---- members of what is made of numbers
 
-pub below_has : (n k : ℕ) → k < n → Contains (below n) k
-below_has n k lt = subst (λ (j : ℕ). Contains (below n) j) (let e : 0 + k ≡ k = omega arith in e) (numbers_have 0 n k lt)
-
 pub below_from : (n k : ℕ) → Contains (below n) k → k < n
 below_from n k c = let r = range_from 0 n k c in omega (arith, r.1)
-
-pub grid_has : {A : Type 0} (f : ℕ → ℕ → ℕ → ℕ → A) (a b c d z y x k : ℕ) → z < a → y < b → x < c → k < d → Contains (grid a b c d f) (f z y x k)
-grid_has f a b c d z y x k lz ly lx lk =
-    flat_has (λ i. flat_map (λ j. flat_map (λ l. map (λ m. f i j l m) (below d)) (below c)) (below b)) (below a) z (f z y x k) (below_has a z lz)
-    (flat_has (λ j. flat_map (λ l. map (λ m. f z j l m) (below d)) (below c)) (below b) y (f z y x k) (below_has b y ly)
-    (flat_has (λ l. map (λ m. f z y l m) (below d)) (below c) x (f z y x k) (below_has c x lx)
-    (map_has (λ m. f z y x m) (below d) k (below_has d k lk))))
 
 -- ---- what areas have
 

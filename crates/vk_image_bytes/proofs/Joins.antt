@@ -18,7 +18,7 @@ use Rattle.vk_image_bytes.specs.declared.rows.Places.{Places}
 use Rattle.vk_image_bytes.specs.declared.rows.Rows.{Rows}
 use Rattle.vk_image_bytes.specs.Copies.{numbered_writes}
 use Rattle.vk_image_bytes.specs.Inner.Rows.{LiesWithin, gathered, AreAdded, RowsFit, place_at, row_copy, layer_copies}
-use Rattle.vk_image_bytes.proofs.Members.{number_in}
+use Rattle.vk_model.proofs.Lists.Grids.{below_has}
 
 -- ---- byte writes of ranges
 
@@ -98,7 +98,7 @@ whole_layer_added a b r z copy source destination fit is added = record {
     last : (s d : ℕ) → All (LiesWithin s d) (layer_copies r z) → LiesWithin s d (copy_of (place_at r.source z 0) (place_at r.destination z 0) (r.height * r.size))
     last s d all =
         let y : ℕ = r.height - 1 in
-        let row = All-contains (LiesWithin s d) (layer_copies r z) (row_copy r z y) all (map_has (row_copy r z) (below r.height) y (number_in r.height y (omega (arith, fit.some)))) in
+        let row = All-contains (LiesWithin s d) (layer_copies r z) (row_copy r z y) all (map_has (row_copy r z) (below r.height) y (below_has r.height y (omega (arith, fit.some)))) in
         let whole : r.height * r.size ≡ y * r.size + r.size = one_less r.height r.size fit.some in
         record { reads = omega (arith, row.reads, at r.source y source, whole); writes = omega (arith, row.writes, at r.destination y destination, whole) }
       where

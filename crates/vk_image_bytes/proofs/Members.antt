@@ -1,11 +1,10 @@
 -- The bytes of a range of levels and layers are those in it.
 use Rattle.std.proofs.Common.{◌≡◌, ℕ, ◌+◌, ◌-◌, ◌<◌, true, false, ◌==◌, ◌&&◌, List, map, refl, ap, sym, subst, ◌∙◌, arith}
 use Rattle.std.specs.Prelude.{Contains}
-use Rattle.std.specs.List.{flat_map}
 use Rattle.std.proofs.lemmas.Bool.{eq-eqb, and_parts}
 use Rattle.vk_model.specs.declared.command.SubresourceRange.{SubresourceRange}
 use Rattle.vk_model.specs.declared.resource.ImageInfo.{ImageInfo}
-use Rattle.vk_model.specs.Basics.{below, grid, within}
+use Rattle.vk_model.specs.Basics.{below, within}
 use Rattle.vk_model.specs.Trace.Image.{texel, level_width, level_height}
 use Rattle.vk_model.specs.Rules.Sizes.{bad_image}
 use Rattle.vk_model.specs.Memory.PlaceLaws.{TexelByte, HasByte}
@@ -13,24 +12,13 @@ use Rattle.vk_model.specs.World.Bytes.{Byte, in_image, same_byte}
 use Rattle.vk_model.specs.World.ByteWrites.{subresource_bytes, level_bytes}
 use Rattle.vk_model.specs.World.Effect.{in_range}
 use Rattle.vk_model.specs.Sync.Access.{is_in}
-use Rattle.vk_model.proofs.Lists.Grids.{grid_from}
-use Rattle.vk_model.proofs.Lists.Members.{some_member, member_passes, numbers_have, range_from, mapped_from, map_has, flat_from, flat_has}
+use Rattle.vk_model.proofs.Lists.Grids.{grid_from, grid_has, below_has}
+use Rattle.vk_model.proofs.Lists.Members.{some_member, member_passes, range_from, mapped_from, map_has, flat_from, flat_has}
 use Rattle.vk_model.proofs.Lists.Truths.{bool_same}
 use Rattle.vk_model.proofs.World.BytePlaces.{image_same}
 use Rattle.vk_image_bytes.specs.Numbers.{byte_count, numbered, byte_in, byte_of}
 use Rattle.vk_image_bytes.proofs.Numbering.{number_has}
 use Rattle.vk_image_bytes.proofs.Spans.{within_from, within_parts}
-
-pub number_in : (n k : ℕ) → k < n → Contains (below n) k
-number_in n k lt = let at : 0 + k ≡ k = omega arith in subst (λ (j : ℕ). Contains (below n) j) at (numbers_have 0 n k lt)
-
--- each cell of a grid is among its items
-pub grid_has : {A : Type 0} (f : ℕ → ℕ → ℕ → ℕ → A) (a b c d z y x k : ℕ) → z < a → y < b → x < c → k < d → Contains (grid a b c d f) (f z y x k)
-grid_has f a b c d z y x k lz ly lx lk =
-    flat_has (λ i. flat_map (λ j. flat_map (λ l. map (λ o. f i j l o) (below d)) (below c)) (below b)) (below a) z (f z y x k) (number_in a z lz)
-    (flat_has (λ j. flat_map (λ l. map (λ o. f z j l o) (below d)) (below c)) (below b) y (f z y x k) (number_in b y ly)
-    (flat_has (λ l. map (λ o. f z y l o) (below d)) (below c) x (f z y x k) (number_in c x lx)
-    (map_has (λ o. f z y x o) (below d) k (number_in d k lk))))
 
 module _ (m : ImageInfo) (i : ℕ) (r : SubresourceRange) where
   abbrev bytes : List Byte
@@ -67,7 +55,7 @@ module _ (m : ImageInfo) (i : ℕ) (r : SubresourceRange) where
       let here : Contains (level_bytes i m r b.level) (cell b.level z b.y b.x b.texel_byte) =
       grid_has (cell b.level) r.layers (level_height m b.level) (level_width m b.level) (texel m.format) z b.y b.x b.texel_byte (omega (arith, of_layer.0, of_layer.1)) h.y_there h.x_there h.texel_byte_there in
       let among : Contains (subresource_bytes i m r) (cell b.level z b.y b.x b.texel_byte) =
-      flat_has (λ k. level_bytes i m r (r.first_level + k)) (below r.levels) l (cell b.level z b.y b.x b.texel_byte) (number_in r.levels l (omega (arith, level.0, level.1)))
+      flat_has (λ k. level_bytes i m r (r.first_level + k)) (below r.levels) l (cell b.level z b.y b.x b.texel_byte) (below_has r.levels l (omega (arith, level.0, level.1)))
       (subst (λ (n : ℕ). Contains (level_bytes i m r n) (cell b.level z b.y b.x b.texel_byte)) (sym level_is) here) in
       let byte : in_image i b.level (r.first_layer + z) b.x b.y b.texel_byte ≡ byte_in i b = ap (λ (n : ℕ). in_image i b.level n b.x b.y b.texel_byte) layer_is in
       member_passes (same_byte (byte_in i b)) bytes (byte_in i b) (subst (λ (c : Byte). Contains bytes c) byte (map_has (λ p. p.0) (subresource_bytes i m r) (cell b.level z b.y b.x b.texel_byte) among)) (itself b)

@@ -1,8 +1,9 @@
 -- The items of a grid: where each is, and that those of different places are apart. Other crates cite it.
-use Rattle.std.proofs.Common.{◌≡◌, ℕ, ◌<◌, List, map, refl, arith, inl, inr, ◌⊎◌}
+use Rattle.std.proofs.Common.{◌≡◌, ℕ, ◌+◌, ◌<◌, List, map, refl, subst, arith, inl, inr, ◌⊎◌}
 use Rattle.std.specs.Prelude.{Contains}
 use Rattle.std.specs.List.{flat_map}
 use Rattle.vk_model.specs.Basics.{below, grid}
+use Rattle.vk_model.proofs.Lists.Members.{numbers_have, map_has, flat_has}
 use Rattle.vk_model.proofs.Lists.Pairs.{Each, Pairs, each_map, each_flat, each_range, each_of, pairs_range, pairs_of, pairs_flat, each_has}
 
 -- the one place comes before the other: by the first number in which they differ
@@ -96,3 +97,16 @@ in_grid f a b c d =
 
 pub grid_from : {A : Type 0} (f : ℕ → ℕ → ℕ → ℕ → A) (a b c d : ℕ) (item : A) → Contains (grid a b c d f) item → At f a b c d item
 grid_from f a b c d item h = each_has (At f a b c d) (grid a b c d f) item (in_grid f a b c d) h
+
+-- ---- what a grid has
+
+pub below_has : (n k : ℕ) → k < n → Contains (below n) k
+below_has n k lt = let at : 0 + k ≡ k = omega arith in subst (λ (j : ℕ). Contains (below n) j) at (numbers_have 0 n k lt)
+
+-- each cell of a grid is among its items
+pub grid_has : {A : Type 0} (f : ℕ → ℕ → ℕ → ℕ → A) (a b c d z y x k : ℕ) → z < a → y < b → x < c → k < d → Contains (grid a b c d f) (f z y x k)
+grid_has f a b c d z y x k lz ly lx lk =
+    flat_has (λ i. flat_map (λ j. flat_map (λ l. map (λ o. f i j l o) (below d)) (below c)) (below b)) (below a) z (f z y x k) (below_has a z lz)
+    (flat_has (λ j. flat_map (λ l. map (λ o. f z j l o) (below d)) (below c)) (below b) y (f z y x k) (below_has b y ly)
+    (flat_has (λ l. map (λ o. f z y l o) (below d)) (below c) x (f z y x k) (below_has c x lx)
+    (map_has (λ o. f z y x o) (below d) k (below_has d k lk))))

@@ -13,14 +13,14 @@ use Rattle.vk_model.specs.Trace.Point.{Past}
 use Rattle.vk_model.specs.World.Bytes.{Byte, in_image, same_byte}
 use Rattle.vk_model.specs.World.ByteWrites.{subresource_bytes, level_bytes}
 use Rattle.vk_model.specs.Sync.Access.{is_in}
-use Rattle.vk_model.proofs.Lists.Grids.{grid_from}
+use Rattle.vk_model.proofs.Lists.Grids.{grid_from, below_has}
 use Rattle.vk_model.proofs.Lists.Members.{some_member, member_passes, range_from, mapped_from, flat_from}
 use Rattle.vk_model.proofs.Lists.Truths.{clash}
 use Rattle.vk_laws.proofs.Accesses.TaskAccesses.{byte_itself}
 use Rattle.vk_image_bytes.specs.declared.ranges.ByteRanges.{ByteRanges}
 use Rattle.vk_image_bytes.specs.Numbers.{byte_of, byte_count, number_of}
 use Rattle.vk_image_bytes.specs.Ranges.{AreRanges, has_number}
-use Rattle.vk_image_bytes.proofs.Members.{in_subresources, number_in}
+use Rattle.vk_image_bytes.proofs.Members.{in_subresources}
 use Rattle.vk_image_bytes.proofs.Numbering.{number_below, byte_of_number}
 use Rattle.vk_image_bytes.proofs.Spans.{within_from, within_parts}
 use Rattle.vk_touches.specs.declared.touches.LastTouches.{LastTouches}
@@ -88,7 +88,7 @@ module _ (m : ImageInfo) (i : ℕ) (r : SubresourceRange) (fit : AreThere m r) w
     ranges_found true (n, lt, (k, low, high, t, at, h)) =
         let ends = are.inside n lt in
         let there : k < byte_count m = omega (arith, high, ends) in
-        let has : has_number s k ≡ true = member_passes (λ j. within (s.first + j * s.step) s.size k) (below s.count) n (number_in s.count n lt) (within_from (s.first + n * s.step) s.size k low high) in
+        let has : has_number s k ≡ true = member_passes (λ j. within (s.first + j * s.step) s.size k) (below s.count) n (below_has s.count n lt) (within_from (s.first + n * s.step) s.size k low high) in
         member_passes test bytes (byte_of m i k) (is_there (byte_of m i k) bytes (in_subresources m i r fit.shaped k there ∙ sym (are.bytes i k there) ∙ has)) (said k there true t at h)
     ranges_found false none = false_from_ne_true (list_any test bytes) (λ e.
         let b = some_member test bytes e in
