@@ -1,5 +1,5 @@
 -- What a point asks that breaks no rule, rule by rule.
-use Rattle.std.proofs.Common.{◌≡◌, ◌≢◌, ℕ, ◌++◌, subst, ◌<◌, ◌≤◌, List, [], ◌∷◌, Bool, true, false, not, ◌==◌, nat_lt, refl, arith, Option, Some, None}
+use Rattle.std.proofs.Common.{◌≡◌, ◌≢◌, ℕ, ◌++◌, subst, ◌<◌, ◌≤◌, List, [], ◌∷◌, Bool, true, false, not, ◌==◌, nat_lt, refl, arith, Some, None}
 use Rattle.std.specs.Prelude.{IsTrue, Contains, All, is_some, if◌then◌else◌}
 use Rattle.std.specs.List.{list_any}
 use Rattle.std.proofs.lemmas.Bool.{ltb-false, eqb-false, false_from_ne_true, or_parts}
@@ -21,6 +21,7 @@ use Rattle.vk_model.specs.Rules.Binding.{on_bound, ends_past_memory, is_aliased,
 use Rattle.vk_model.specs.World.Areas.{areas_read, areas_written}
 use Rattle.vk_model.proofs.Lists.Members.{contains-head, contains-tail, member_passes}
 use Rattle.vk_model.proofs.Lists.Truths.{clash}
+use Rattle.vk_model.proofs.Lists.Failing.{none_there}
 use Rattle.vk_laws.proofs.Nodes.Steady.{IsNew, made_until}
 use Rattle.vk_laws.proofs.Living.Alive.{is_alive, host_names_live}
 use Rattle.vk_device.specs.Inner.Clean.{IsClean}
@@ -33,10 +34,6 @@ pub breaks_none : (past : Past) (p : Point) → IsClean (p ∷ past) → BreaksN
 breaks_none past p clean r = false_from_ne_true (breaks r past p) (clean.sound past p r newest)
 
 -- ---- what the supported forms get of it
-
-pub not_some : {A : Type 0} (o : Option A) → is_some o ≡ false → o ≡ None
-not_some None e = refl
-not_some (Some x) e = absurd cc
 
 pub not-false : (b : Bool) → not b ≡ false → b ≡ true
 not-false true e = refl
@@ -54,7 +51,7 @@ module _ (past : Past) (p : Point) (none : BreaksNone past p) where
   unfolding breaks
   new_made x i is makes =
       let unbroken : breaks_new_id past p ≡ false = none rule.NewId in
-      not_some (made past i) (rw (is, makes) at unbroken)
+      none_there (made past i) (rw (is, makes) at unbroken)
 
   pub entry_size : (x : Entry) → p.action ≡ Host x → bad_entry_size x ≡ false
   unfolding breaks

@@ -125,8 +125,3 @@ module _ (past : Past) (w a : Node) (k : Access) (b : Byte) where
       -- a node that makes it visible is missing
       pub unseen_there : is_host a.act ≡ false → f.is_there ≡ true → IsMissingAfterWrite past w a k b missing.Visible
       unseen_there device there = inl (record { on_device = device; available = sym are.there ∙ there; missing = invisible })
-
--- what isn't some is none
-pub none_of : {A : Type 0} (o : Option A) → is_some o ≡ false → o ≡ None
-none_of None h = refl
-none_of (Some x) h = absurd cc

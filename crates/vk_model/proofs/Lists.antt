@@ -3,3 +3,4 @@ pub mod Members
 pub mod Pairs
 pub mod Grids
 pub mod Rows
+pub mod Failing

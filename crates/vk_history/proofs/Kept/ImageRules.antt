@@ -2,7 +2,7 @@
 use Rattle.std.proofs.Common.{◌≡◌, ◌≤◌, ◌<◌, ◌+◌, ◌/◌, ◌*◌, ◌^◌, ℕ, cond, nat_lt, List, [], ◌∷◌, ◌++◌, map, Bool, true, false, not, ◌||◌, ◌==◌, refl, ap, sym, ◌∙◌, subst, arith, Option, Some, None}
 use Rattle.std.specs.Prelude.{Contains, is_some, option_and_then}
 use Rattle.std.specs.List.{list_any, find, cons_option}
-use Rattle.std.proofs.lemmas.Bool.{false_from_ne_true, or_parts, ltb-false, eqb-true, not-false}
+use Rattle.std.proofs.lemmas.Bool.{or_parts, ltb-false, eqb-true, not-false}
 use Rattle.std.proofs.lemmas.List.Folds.{list_any-append}
 use Rattle.vk_model.specs.declared.command.BufferImageCopy.{BufferImageCopy}
 use Rattle.vk_model.specs.declared.command.Cmd.{Cmd}
@@ -22,8 +22,8 @@ use Rattle.vk_model.specs.World.ByteWrites.{buffer_size}
 use Rattle.vk_model.specs.Rules.Ranges.{bad_area, bad_box, bad_subresource, area_past, command_past, host_past, region_past, texels_differ}
 use Rattle.vk_model.specs.Rules.Sizes.{bad_image, bad_entry_size, bad_memory_size}
 use Rattle.vk_model.specs.Rules.Table.{fault, breaks}
-use Rattle.vk_model.proofs.Lists.Members.{member_passes, map_has}
-use Rattle.vk_model.proofs.Lists.Truths.{clash}
+use Rattle.vk_model.proofs.Lists.Members.{map_has}
+use Rattle.vk_model.proofs.Lists.Failing.{fails}
 use Rattle.vk_image_bytes.specs.Copies.{AreInside, AreBetween}
 use Rattle.vk_history.proofs.Kept.NextPoint.{IsWithin, unbroken, fault_rest}
 
@@ -85,10 +85,6 @@ module _ (past : Past) (clean : fault past ≡ None) where
     go (Some x) e h = subst (λ (o : Option Entry). (let n : ℕ = elim (option_and_then buffer_in o) [ None ↦ 0 | Some c ↦ c.size ] in n) < 2 ^ 64) (sym e) (from x e (buffer_in x) refl h)
 
 -- ---- what commands reach of images
-
--- what no item passes fails at a member
-fails : {X : Type 0} (f : X → Bool) (xs : List X) (x : X) → list_any f xs ≡ false → Contains xs x → f x ≡ false
-fails f xs x none c = false_from_ne_true (f x) (λ yes. clash (member_passes f xs x c yes) none)
 
 module _ (past : Past) (p : Point) (fit : IsWithin past p) (c : Cmd) (is : p.action ≡ Run c) where
   -- the areas that it reads and writes lie in images and buffers

@@ -18,11 +18,6 @@ use Rattle.vk_layouts.specs.ImageLayouts.{ImageLayouts, layout_at, IsWithin}
 use Rattle.vk_history.specs.declared.layouts.CurrentLayouts.{CurrentLayouts}
 use Rattle.vk_history.specs.Layouts.{AreKept, AreOf, AreOfImage, kept_layout, has_subresources, HasRoom, IsNew, SetIn}
 
--- what isn't there
-pub none_there : {A : Type 0} (o : Option A) → is_some o ≡ false → o ≡ None
-none_there None e = refl
-none_there (Some x) e = absurd cc
-
 -- ---- a new image
 
 -- layouts that were just made keep those of a world without any

@@ -4,7 +4,7 @@ use Rattle.std.specs.Prelude.{IfSome, IsTrue, is_some, if◌then◌else◌, opti
 use Rattle.std.specs.List.{list_any, flat_map}
 use Rattle.std.specs.Ordering.{nat_cmp}
 use Rattle.std.specs.BTreeMap.{get}
-use Rattle.std.proofs.lemmas.Bool.{false_from_ne_true, not-false, or_parts}
+use Rattle.std.proofs.lemmas.Bool.{not-false, or_parts}
 use Rattle.std.proofs.lemmas.List.{get_or_default}
 use Rattle.vk_model.specs.declared.command.Cmd.TheVariants as cmd
 use Rattle.vk_model.specs.declared.command.Element.{Element}
@@ -20,18 +20,14 @@ use Rattle.vk_model.specs.Rules.Ids.{is_dead, is_image, until, asked_by, asked_b
 use Rattle.vk_model.specs.Rules.Ranges.{breaks_subresource, bad_subresource, bad_element, bad_range}
 use Rattle.vk_model.specs.Rules.Table.{breaks}
 use Rattle.vk_model.proofs.Rules.Fault.{unbroken_of_none}
-use Rattle.vk_model.proofs.Lists.Members.{member_passes, contains-head, flat_has}
-use Rattle.vk_model.proofs.Lists.Truths.{clash}
+use Rattle.vk_model.proofs.Lists.Members.{contains-head, flat_has}
+use Rattle.vk_model.proofs.Lists.Failing.{fails}
 use Rattle.vk_laws.proofs.Nodes.Steady.{made_until, new_ids}
 use Rattle.vk_layouts.specs.ImageLayouts.{ImageLayouts}
 use Rattle.vk_history.specs.declared.layouts.CurrentLayouts.{CurrentLayouts}
 use Rattle.vk_history.specs.Judged.{IsJudged}
 use Rattle.vk_history.specs.Layouts.{AreKept, AreOfImage, AreThere, is_there, elements_at}
 use Rattle.vk_history.proofs.Kept.NextPoint.{judged_rest, unbroken, live_id, made_kept}
-
--- what no item passes fails at a member
-fails : {X : Type 0} (f : X → Bool) (xs : List X) (x : X) → list_any f xs ≡ false → Contains xs x → f x ≡ false
-fails f xs x none c = false_from_ne_true (f x) (λ yes. clash (member_passes f xs x c yes) none)
 
 index_has : {X : Type 0} (xs : List X) (k : ℕ) (d : X) → k < length xs → Contains xs (slice_index_or xs k d)
 index_has xs k d lt = (k, lt, get_or_default xs k (slice_index_or xs k d) d lt)

@@ -2,7 +2,8 @@ use Rattle.std.proofs.Common.{◌∙◌, ap, sym, Some}
 use Rattle.std.specs.Prelude.{option_and_then, option_map}
 use Rattle.vk_model.specs.Trace.Objects.{image_in}
 use Rattle.vk_touches.proofs.PartChanges.{on_three}
-use Rattle.vk_history.proofs.Transitions.Keeping.{room_made, none_there}
+use Rattle.vk_model.proofs.Lists.Failing.{none_there}
+use Rattle.vk_history.proofs.Transitions.Keeping.{room_made}
 use Rattle.vk_history.proofs.layouts.CurrentLayouts.make_room.Goals as goal
 
 pub returns-in-Some-Image : goal.returns-in-Some-Image
