@@ -11,6 +11,7 @@ use Rattle.std.specs.Prelude.{Contains, IsTrue, is_some, option_and_then}
 use Rattle.vk_model.proofs.Lists.Members.{contains-head, contains-tail, map_has, mapped_from, some_member}
 use Rattle.vk_model.proofs.Lists.Truths.{clash}
 use Rattle.vk_model.proofs.World.BytePlaces.{common_meets}
+use Rattle.vk_model.proofs.Rules.Limits.{within_limit}
 use Rattle.vk_model.specs.declared.command.BufferImageCopy.{BufferImageCopy}
 use Rattle.vk_model.specs.declared.command.Cmd.{Cmd}
 use Rattle.vk_model.specs.declared.command.Cmd.TheVariants as cmd
@@ -32,7 +33,7 @@ use Rattle.vk_image_transfer.specs.Pieces.{RangeFits}
 use Rattle.vk_image_transfer.specs.Rows.{BoxFits, RegionFits}
 use Rattle.vk_laws.proofs.Nodes.Steady.{IsNew}
 use Rattle.vk_resources.specs.Fits.{FitsClear, FitsRegions, FitsImages, FitsCommand, KeepsApart}
-use Rattle.vk_device.proofs.Unbroken.{BreaksNone, not-false, not_above, not_zero, none_passes, all_from, areas_inside, command_names, command_overlap, command_format, command_subresource}
+use Rattle.vk_device.proofs.Unbroken.{BreaksNone, not-false, not_above, none_passes, all_from, areas_inside, command_names, command_overlap, command_format, command_subresource}
 
 -- of two tests that don't both pass, the second fails where the first passes
 rest_false : (a b : Bool) → a ≡ true → a && b ≡ false → b ≡ false
@@ -40,10 +41,6 @@ rest_false true b is e = e
 rest_false false b is e = absurd cc
 
 -- ---- ranges and boxes
-
--- a count that isn't beyond the limit is of some, and ends there
-within_limit : (limit from count : ℕ) → is_beyond limit from count ≡ false → (0 < count) × (from + count ≤ limit)
-within_limit limit from count e = let parts = or_parts (count == 0) (nat_lt limit (from + count)) e in (not_zero count parts.0, not_above limit (from + count) parts.1)
 
 -- a range of an image, with a level and a layer
 record IsRange (m : ImageInfo) (r : SubresourceRange) : Type 0 where

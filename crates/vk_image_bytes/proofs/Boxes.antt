@@ -1,8 +1,8 @@
 -- Regions of copies, as rows in a buffer and in an image.
-use Rattle.std.proofs.Common.{◌≡◌, ℕ, zero, suc, ◌+◌, ◌-◌, ◌*◌, ◌/◌, ◌%◌, ◌^◌, ◌<◌, ◌≤◌, min, false, ◌==◌, ◌||◌, List, [], ◌∷◌, map, refl, ap, sym, ◌∙◌, arith, inl, inr}
-use Rattle.std.specs.Prelude.{All, nat_lt}
+use Rattle.std.proofs.Common.{◌≡◌, ℕ, zero, suc, ◌+◌, ◌-◌, ◌*◌, ◌/◌, ◌%◌, ◌^◌, ◌<◌, ◌≤◌, min, false, ◌||◌, List, [], ◌∷◌, map, refl, ap, sym, ◌∙◌, arith, inl, inr}
+use Rattle.std.specs.Prelude.{All}
 use Rattle.std.specs.List.{flat_map}
-use Rattle.std.proofs.lemmas.Bool.{cases_lt, or_parts, eqb-false, ltb-false, lt-ltb}
+use Rattle.std.proofs.lemmas.Bool.{cases_lt, or_parts, ltb-false, lt-ltb}
 use Rattle.std.proofs.lemmas.Nat.{mul-le, mod_below, div-add-mod'}
 use Rattle.std.proofs.lemmas.List.Elements.{All-nil, All-cons}
 use Rattle.vk_model.specs.declared.command.BufferImageCopy.{BufferImageCopy}
@@ -16,6 +16,7 @@ use Rattle.vk_model.specs.World.Bytes.{Byte, in_buffer, in_image}
 use Rattle.vk_model.specs.World.ByteWrites.{ByteWrite, byte_write, From, buffer_texel, row_texels, layer_rows}
 use Rattle.vk_model.proofs.Lists.Pairs.{Each, each_flat, each_range, each_of}
 use Rattle.vk_model.proofs.Lists.Rows.{flat_flat, flat_mapped, flat_below, map_below, mapped_rows}
+use Rattle.vk_model.proofs.Rules.Limits.{within_limit}
 use Rattle.vk_image_tiles.proofs.LevelBounds.{some_bytes}
 use Rattle.vk_image_bytes.specs.declared.rows.Places.{Places}
 use Rattle.vk_image_bytes.specs.declared.rows.Rows.{Rows}
@@ -35,21 +36,15 @@ pub record BoxParts (m : ImageInfo) (k : Box) : Type 0 where
   pub some_rows : 0 < k.height
   pub rows : k.y + k.height ≤ level_height m k.level
 
-inside : (limit from count : ℕ) → is_beyond limit from count ≡ false → (0 < count) × (from + count ≤ limit)
-inside limit from count e =
-    let parts = or_parts (count == 0) (nat_lt limit (from + count)) e in
-    let some = eqb-false count 0 parts.0 in
-    (omega arith, ltb-false limit (from + count) parts.1)
-
 pub box_parts : (m : ImageInfo) (k : Box) → bad_box m k ≡ false → BoxParts m k
 box_parts m k e =
     let three = or_parts (is_beyond m.levels k.level 1 || is_beyond m.layers k.first_layer k.layers || is_beyond (level_width m k.level) k.x k.width) (is_beyond (level_height m k.level) k.y k.height) e in
     let two = or_parts (is_beyond m.levels k.level 1 || is_beyond m.layers k.first_layer k.layers) (is_beyond (level_width m k.level) k.x k.width) three.0 in
     let one = or_parts (is_beyond m.levels k.level 1) (is_beyond m.layers k.first_layer k.layers) two.0 in
-    let level = inside m.levels k.level 1 one.0 in
-    let layers = inside m.layers k.first_layer k.layers one.1 in
-    let columns = inside (level_width m k.level) k.x k.width two.1 in
-    let rows = inside (level_height m k.level) k.y k.height three.1 in
+    let level = within_limit m.levels k.level 1 one.0 in
+    let layers = within_limit m.layers k.first_layer k.layers one.1 in
+    let columns = within_limit (level_width m k.level) k.x k.width two.1 in
+    let rows = within_limit (level_height m k.level) k.y k.height three.1 in
     record { level = omega (arith, level.1); some_layers = layers.0; layers = layers.1; some_columns = columns.0; columns = columns.1; some_rows = rows.0; rows = rows.1 }
 
 -- ---- rows that have the bytes of texels

@@ -1,2 +1,3 @@
 pub mod Table
 pub mod Fault
+pub mod Limits
