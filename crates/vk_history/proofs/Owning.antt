@@ -27,7 +27,7 @@ use Rattle.vk_model.specs.Sync.Before.{IsNumbered}
 use Rattle.vk_model.proofs.Lists.Members.{found}
 use Rattle.vk_model.proofs.Lists.Truths.{clash}
 use Rattle.vk_model.proofs.Sync.Numbers.{number_below, numbered}
-use Rattle.vk_laws.proofs.Forms.Unchanged.{host_owner}
+use Rattle.vk_laws.proofs.Forms.Unchanged.{host_owner, transitioned_owner}
 use Rattle.vk_order.specs.declared.parts.Spot.{Spot}
 use Rattle.vk_order.specs.Lines.{line_of}
 use Rattle.vk_order.specs.Inner.Clocks.{place}
@@ -89,12 +89,6 @@ used_one past f k w r = owner_used past f (k ∷ []) w r ∙ drop_or (r == k) wh
   drop_or : (b : Bool) → (if (b || false) && is_exclusive past r then world.Family f else w.owner r) ≡ (if b && is_exclusive past r then world.Family f else w.owner r)
   drop_or true = refl
   drop_or false = refl
-
-transitioned_owner : (e : ImageElement) (w : World) (r : ℕ) → (transitioned e w).owner r ≡ w.owner r
-transitioned_owner e w r = go (is_transition e) refl where
-  go : (b : Bool) → is_transition e ≡ b → (transitioned e w).owner r ≡ w.owner r
-  go true h = rw h refl
-  go false h = rw h refl
 
 module _ (past : Past) (f : ℕ) (w : World) (r : ℕ) where
   -- what is set for one resource

@@ -14,7 +14,7 @@ use Rattle.vk_model.specs.World.Bytes.{World, Owner, Family, Released}
 use Rattle.vk_model.specs.World.ByteWrites.{byte_writes}
 use Rattle.vk_model.specs.World.Effect.{world, used, set_owner, transitioned, after_writes, after_element, after_buffer_element, after_image_element, after_action}
 use Rattle.vk_model.specs.World.Ownership.{Transfer, Stays, Release, Acquire, Neither, transfer, is_transition, family_of, uses, elements_of}
-use Rattle.vk_laws.proofs.Forms.Unchanged.{host_owner}
+use Rattle.vk_laws.proofs.Forms.Unchanged.{host_owner, transitioned_owner}
 use Rattle.vk_states.specs.Owners.{takes_half}
 use Rattle.vk_states.specs.Inner.OwnerSteps.{owner_half, owner_by, owner_by_action, owner_by_point, owner_in}
 
@@ -58,13 +58,6 @@ module _ (past : Past) (f r : ℕ) where
       ∙ choose (is_exclusive past r) (r == k) (among r rs) (w.owner r)
 
 -- ---- elements
-
-transitioned_owner : (e : ImageElement) (w : World) (r : ℕ) → (transitioned e w).owner r ≡ w.owner r
-transitioned_owner e w r = go (is_transition e) refl
-  where
-    go : (b : Bool) → is_transition e ≡ b → (transitioned e w).owner r ≡ w.owner r
-    go true h = rw h refl
-    go false h = rw h refl
 
 module _ (past : Past) (q r : ℕ) where
   abbrev f : ℕ

@@ -42,7 +42,8 @@ use Rattle.vk_history.proofs.Kept.NextPoint.{image_for_command, fault_rest}
 use Rattle.vk_history.proofs.Kept.ImageRules.{image_good}
 use Rattle.vk_history.proofs.Kept.AccessSteps.{GivesValues, writes_byte, values_step}
 use Rattle.vk_history.proofs.Kept.Moving.{of_image, moves_number}
-use Rattle.vk_history.proofs.Kept.PassSteps.{transitioned_owner, transitioned_dirty, transitioned_value, taken_at, good_there}
+use Rattle.vk_laws.proofs.Forms.Unchanged.{transitioned_owner}
+use Rattle.vk_history.proofs.Kept.PassSteps.{transitioned_dirty, transitioned_value, taken_at, good_there}
 
 -- ---- what a clear writes
 

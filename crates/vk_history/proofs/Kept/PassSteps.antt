@@ -40,6 +40,7 @@ use Rattle.vk_history.proofs.Kept.Moving.{moves_no_other}
 use Rattle.vk_history.proofs.Kept.NextPoint.{there_for_command, image_for_command, fault_rest}
 use Rattle.vk_history.proofs.Kept.ContentSteps.{IsOf, taken_owner, left_is, used_apart, same_resource, same_size, same_byte, same_image, same_mode, same_cache}
 use Rattle.vk_history.proofs.Making.Numbers.{numbered_at, buffer_is_resource, image_is_resource}
+use Rattle.vk_laws.proofs.Forms.Unchanged.{transitioned_owner}
 
 -- ---- what an element does with contents
 
@@ -81,12 +82,6 @@ owner_at past r w t o u v owner is holds a =
 
 -- what a transition leaves
 module _ (e : ImageElement) (w : World) where
-  pub transitioned_owner : (b : ℕ) → (transitioned e w).owner b ≡ w.owner b
-  transitioned_owner b = go (is_transition e) where
-    go : (t : Bool) → (if t then record w { layout = layout_after e w; value = if e.old_layout == 0 then without (in_range e.image e.range) w.value else w.value } else w).owner b ≡ w.owner b
-    go true = refl
-    go false = refl
-
   pub transitioned_dirty : (c : Byte) → (transitioned e w).dirty c ≡ w.dirty c
   transitioned_dirty c = go (is_transition e) where
     go : (t : Bool) → (if t then record w { layout = layout_after e w; value = if e.old_layout == 0 then without (in_range e.image e.range) w.value else w.value } else w).dirty c ≡ w.dirty c

@@ -2,10 +2,12 @@
 use Rattle.std.proofs.Common.{◌≡◌, ℕ, List, [], ◌∷◌, Bool, true, false, refl, ◌∙◌}
 use Rattle.std.specs.Prelude.{if◌then◌else◌}
 use Rattle.std.specs.List.{fold}
+use Rattle.vk_model.specs.declared.command.ImageElement.{ImageElement}
 use Rattle.vk_model.specs.declared.entry.Entry.{Entry}
 use Rattle.vk_model.specs.declared.entry.Entry.TheVariants as entry
 use Rattle.vk_model.specs.World.Bytes.{World}
-use Rattle.vk_model.specs.World.Effect.{used, after_host, flushed, invalidated, reaches}
+use Rattle.vk_model.specs.World.Effect.{used, after_host, flushed, invalidated, reaches, transitioned}
+use Rattle.vk_model.specs.World.Ownership.{is_transition}
 use Rattle.vk_model.specs.Trace.Objects.{is_exclusive, is_cached}
 use Rattle.vk_model.specs.Trace.Point.{Past}
 
@@ -50,3 +52,11 @@ host_owner past (entry.Invalidate b o n) w = go (is_cached past b)
     go true = refl
     go false = refl
 host_owner past _ w = refl
+
+-- a transition changes no owner
+pub transitioned_owner : (e : ImageElement) (w : World) (r : ℕ) → (transitioned e w).owner r ≡ w.owner r
+transitioned_owner e w r = go (is_transition e) refl
+  where
+    go : (b : Bool) → is_transition e ≡ b → (transitioned e w).owner r ≡ w.owner r
+    go true h = rw h refl
+    go false h = rw h refl
