@@ -20,17 +20,9 @@ use Rattle.vk_resources.proofs.Lying.{there_stays}
 use Rattle.vk_model.specs.declared.resource.ImageInfo.{ImageInfo}
 use Rattle.vk_resources.specs.Matches.{MatchesLive}
 use Rattle.vk_device.specs.Inner.Ready.{HasTouched, Touches}
+use Rattle.vk_laws.proofs.DirectRuns.RunsOn.{no_atoms}
 
 -- ---- tests of atoms
-
-false_and : (t : Bool) → (t && false) ≡ false
-false_and true = refl
-false_and false = refl
-
-none_in : (o : Option ℕ) (c : Byte) → in_atoms o [] c ≡ false
-none_in None c = refl
-none_in (Some b) (in_image i l a x y z) = refl
-none_in (Some b) (in_buffer i k) = false_and (b == i)
 
 -- what lies below a number isn't that number
 fresh : (atoms : List ℕ) (i : ℕ) → IsTrue (list_all (λ j. nat_lt j i) atoms) → among i atoms ≡ false
@@ -92,7 +84,7 @@ module _ (answer : List ℕ → ℕ → ℕ) (next : List ℕ → ℕ → List �
     taken = [];
     low = refl;
     picks = refl;
-    touched = record { cells = λ c cell there has. rw (none_in (touched_by x) c) has; matches = λ past m. m; resources = refl; shapes = refl; same = λ e. refl };
+    touched = record { cells = λ c cell there has. rw (no_atoms (touched_by x) c) has; matches = λ past m. m; resources = refl; shapes = refl; same = λ e. refl };
   }
 
   lower : (atoms : List ℕ) (i : ℕ) → IsTrue (list_all (λ j. nat_lt j i) atoms) → IsTrue (list_all (λ j. nat_lt j (i + 1)) atoms)

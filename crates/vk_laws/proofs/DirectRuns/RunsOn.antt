@@ -99,7 +99,7 @@ module _ {t : List Entry} {steps : List Step} {s : Stage} {m : HostMemory} (r : 
 
 -- ---- an entry that doesn't reach memory
 
-no_atoms : (o : Option ℕ) (c : Byte) → in_atoms o [] c ≡ false
+pub no_atoms : (o : Option ℕ) (c : Byte) → in_atoms o [] c ≡ false
 no_atoms None c = refl
 no_atoms (Some b) (in_buffer i k) = and_right (b == i) (among (k / 64) []) refl
 no_atoms (Some b) (in_image i l a x y p) = refl
