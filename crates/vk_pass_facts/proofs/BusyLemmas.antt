@@ -20,7 +20,8 @@ use Rattle.vk_pass_facts.specs.declared.timeline.Timeline.{Timeline}
 use Rattle.vk_pass_facts.specs.Busy.{IsBusyResource}
 use Rattle.vk_pass_facts.specs.Inner.Submits.{IsSubmitted}
 use Rattle.vk_pass_facts.specs.Inner.Uses.{IsIncomplete, IsTimeline}
-use Rattle.vk_pass_facts.proofs.TimelineLemmas.{host_node, host_next}
+use Rattle.vk_laws.proofs.Living.Ends.{host_node}
+use Rattle.vk_pass_facts.proofs.TimelineLemmas.{host_next}
 
 -- ---- a live resource is among the live ones
 

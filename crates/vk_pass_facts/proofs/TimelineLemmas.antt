@@ -8,7 +8,7 @@ use Rattle.std.proofs.Math.Bool.{and-false}
 use Rattle.vk_model.specs.declared.entry.Entry.{Entry}
 use Rattle.vk_model.specs.Basics.{among}
 use Rattle.vk_model.specs.Trace.Point.{Past, Point, Host}
-use Rattle.vk_model.specs.Sync.Node.{Node, Hosts, acts, nodes, with_acts, next_nodes, same_place}
+use Rattle.vk_model.specs.Sync.Node.{Node, acts, nodes, with_acts, next_nodes, same_place}
 use Rattle.vk_model.specs.Sync.Before.{before}
 use Rattle.vk_model.specs.Sync.Complete.{named_by_act, nodes_for}
 use Rattle.vk_model.proofs.Lists.Members.{only_one, contains-head, contains-tail, filter_has, all_passes, member_passes, place_has}
@@ -22,13 +22,11 @@ use Rattle.vk_order.proofs.BeforeLemmas.{node_row}
 use Rattle.vk_pass_facts.specs.declared.named.Spot.{Spot}
 use Rattle.vk_pass_facts.specs.declared.timeline.Timeline.{Timeline}
 use Rattle.vk_pass_facts.specs.Inner.Uses.{IsAt, IsIncomplete, IsTimeline, uses_at}
+use Rattle.vk_laws.proofs.Living.Ends.{host_node, host_node_there}
 
 -- ---- the node of a host entry that comes next
 
-abbrev pub host_node : Past → Point → Entry → Node
-host_node past p x = record { number = length (nodes past); point = p; act = Hosts x }
-
--- it is its only one
+-- it is the only one
 pub host_next : (past : Past) (p : Point) (x : Entry) → p.action ≡ Host x → next_nodes past p ≡ host_node past p x ∷ []
 host_next past p x is =
     let all : nodes (p ∷ past) ≡ host_node past p x ∷ nodes past = ap (λ a. with_acts p (acts a) (nodes past)) is in
@@ -37,9 +35,6 @@ host_next past p x is =
 
 pub host_count : (past : Past) (p : Point) (x : Entry) → p.action ≡ Host x → length (nodes (p ∷ past)) ≡ length (nodes past) + 1
 host_count past p x is = ap (λ a. length (with_acts p (acts a) (nodes past))) is ∙ (let more : length (host_node past p x ∷ nodes past) ≡ length (nodes past) + 1 = omega arith in more)
-
-pub host_there : (past : Past) (p : Point) (x : Entry) → p.action ≡ Host x → Contains (nodes (p ∷ past)) (host_node past p x)
-host_there past p x is = subst (λ (ns : List Node). Contains ns (host_node past p x)) (sym (ap (λ a. with_acts p (acts a) (nodes past)) is)) (contains-head (host_node past p x) (nodes past))
 
 -- ---- the nodes of a command
 
@@ -100,7 +95,7 @@ late_row t past p x s r k row result is line lt at used order late =
     let number : length (nodes past) ≡ t.last = omega (arith, line.count, host_count past p x is) in
     let answer : result ≡ before t.order m n = order m n
     (subst (λ (l : List Node). Contains l m) (sym line.order) there)
-    (subst (λ (l : List Node). Contains l n) (sym line.order) (host_there past p x is)) refl number in
+    (subst (λ (l : List Node). Contains l n) (sym line.order) (host_node_there past p x is)) refl number in
     late_use past p s r x is m there used (ap (λ (l : List Node). before l m n) (sym line.order) ∙ sym answer ∙ untrue result late)
   where
     untrue : (b : Bool) → not b ≡ true → b ≡ false
