@@ -25,7 +25,8 @@ use Rattle.vk_touches.specs.Bytes.{numbered_byte}
 use Rattle.vk_touches.specs.Touched.{touched}
 use Rattle.vk_touches.specs.Conflicts.{AreConflicts, IsAccess, FoundIn, FoundAt, FoundAmong, FoundInRanges, Misses, IsEarly}
 use Rattle.vk_touches.proofs.Judging.Covered.{AreThere, ranges_found}
-use Rattle.vk_touches.proofs.Judging.Found.{any_flat, numbers_found, regions_found}
+use Rattle.vk_laws.proofs.Forms.Spread.{any_flat}
+use Rattle.vk_touches.proofs.Judging.Found.{numbers_found, regions_found}
 
 -- what is kept of the bytes of a resource, by their numbers
 pub record IsKept (past : Past) (b : Bytes) (byte : ℕ → Byte) (size : ℕ) (cached : Bool) (touches : List LastTouches) : Type 0 where

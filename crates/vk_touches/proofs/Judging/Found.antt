@@ -1,8 +1,7 @@
 -- What a search finds of bytes by their numbers is what a test says of the bytes.
-use Rattle.std.proofs.Common.{◌≡◌, ◌<◌, ◌≤◌, ◌+◌, ◌-◌, ℕ, List, [], ◌∷◌, map, slice_get, Bool, true, false, ◌||◌, sym, ap, ◌∙◌, refl, subst, arith, Some}
+use Rattle.std.proofs.Common.{◌≡◌, ◌<◌, ◌≤◌, ◌+◌, ◌-◌, ℕ, List, map, slice_get, Bool, true, false, sym, ap, ◌∙◌, subst, arith, Some}
 use Rattle.std.specs.Prelude.{Contains}
 use Rattle.std.specs.List.{list_any, flat_map}
-use Rattle.std.proofs.lemmas.List.Folds.{list_any-append}
 use Rattle.vk_model.specs.declared.command.BufferCopy.{BufferCopy}
 use Rattle.vk_model.specs.Basics.{below}
 use Rattle.vk_model.specs.World.Bytes.{Byte}
@@ -11,6 +10,7 @@ use Rattle.vk_model.proofs.Lists.Members.{any_map, member_passes, none_passes_an
 use Rattle.vk_touches.specs.declared.touches.LastTouches.{LastTouches}
 use Rattle.vk_touches.specs.Touched.{touched}
 use Rattle.vk_touches.specs.Conflicts.{FoundAt, FoundAmong}
+use Rattle.vk_laws.proofs.Forms.Spread.{any_flat}
 
 -- ---- in a list
 
@@ -27,11 +27,6 @@ any_found is xs o n false test found same = none_passes_any (λ k. test (o + k))
     let lt = (range_from 0 n k c).1 in
     let at = found (o + k) (omega arith) (omega (arith, lt)) in
     same (o + k) (omega arith) (omega (arith, lt)) false at.0 at.1 at.2)
-
--- what some item of a list of lists passes
-pub any_flat : {A B : Type 0} (f : B → Bool) (h : A → List B) (xs : List A) → list_any f (flat_map h xs) ≡ list_any (λ x. list_any f (h x)) xs
-any_flat f h [] = refl
-any_flat f h (x ∷ xs) = list_any-append f (h x) (flat_map h xs) ∙ ap (λ (b : Bool). list_any f (h x) || b) (any_flat f h xs)
 
 -- ---- of bytes of a resource, of which this is kept
 
