@@ -16,6 +16,7 @@ use Rattle.vk_model.proofs.Lists.Members.{none_in, contains-cons, contains-head,
 use Rattle.vk_order.specs.declared.lines.Line.{Line}
 use Rattle.vk_order.specs.declared.lines.Line.TheVariants.{Commands as OfCommands}
 use Rattle.vk_order.specs.Inner.Clocks.{place, on_line}
+use Rattle.vk_order.proofs.PlaceLemmas.{place-top}
 use Rattle.vk_offers.specs.IsOffers.{commands_in}
 
 reversed : (n : Node) (ns : List Node) → reverse (n ∷ ns) ≡ reverse ns ++ n ∷ []
@@ -132,23 +133,6 @@ pub place_next : (n : Node) (ns : List Node) (l : Line) (k : ℕ) (t : Bool) →
 place_next n ns l k true lt e = rw (le-leb (suc n.number) k (omega arith), e) refl
 place_next n ns l k false lt e = rw (le-leb (suc n.number) k (omega arith), e) (omega arith)
 
--- past the greatest number all are counted
-pub place_beyond : (ns : List Node) → IsNumbered ns → (l : Line) (k : ℕ) → length ns ≤ k → place ns l k ≡ place ns l (length ns)
-place_beyond [] numbers l k le = refl
-place_beyond (n ∷ ns) numbers l k le = go (on_line l n) refl (place_beyond ns numbers.1 l k) (place_beyond ns numbers.1 l (suc (length ns)))
-  where
-    number : n.number ≡ length ns
-    number = numbers.0
-
-    go : (t : Bool) → on_line l n ≡ t → (length ns ≤ k → place ns l k ≡ place ns l (length ns)) → (length ns ≤ suc (length ns) → place ns l (suc (length ns)) ≡ place ns l (length ns))
-        → place (n ∷ ns) l k ≡ place (n ∷ ns) l (suc (length ns))
-    go t e far near =
-        let high = place_next n ns l k t (omega (arith, number)) e in
-        let low = place_next n ns l (suc (length ns)) t (omega (arith, number)) e in
-        let same = far (omega arith) in
-        let same' = near (omega arith) in
-        omega arith
-
 -- all of them
 pub all_on : (ns : List Node) → IsNumbered ns → (q : ℕ) → place ns (OfCommands q) (length ns) ≡ count_by (on_queue q) (commands_in ns)
 all_on [] numbers q = refl
@@ -161,12 +145,12 @@ all_on (n ∷ ns) numbers q = go (is_command n.act) (on_queue q n) refl refl (al
         → place (n ∷ ns) (OfCommands q) (suc (length ns)) ≡ count_by (on_queue q) (commands_in (n ∷ ns))
     go false u e f rest =
         let more = place_next n ns (OfCommands q) (suc (length ns)) false (omega (arith, number)) (of_line q n ∙ ap (λ (t : Bool). t && on_queue q n) e) in
-        let beyond = place_beyond ns numbers.1 (OfCommands q) (suc (length ns)) (omega arith) in
+        let beyond = place-top ns numbers.1 (OfCommands q) (suc (length ns)) (omega arith) in
         let same : count_by (on_queue q) (commands_in (n ∷ ns)) ≡ count_by (on_queue q) (commands_in ns) = ap (λ (os : List Node). count_by (on_queue q) os) (other_node n ns e) in
         omega arith
     go true u e f rest =
         let more = place_next n ns (OfCommands q) (suc (length ns)) u (omega (arith, number)) (of_line q n ∙ ap (λ (t : Bool). t && on_queue q n) e ∙ f) in
-        let beyond = place_beyond ns numbers.1 (OfCommands q) (suc (length ns)) (omega arith) in
+        let beyond = place-top ns numbers.1 (OfCommands q) (suc (length ns)) (omega arith) in
         let same : count_by (on_queue q) (commands_in (n ∷ ns)) ≡ count_by (on_queue q) (commands_in ns ++ n ∷ []) = ap (λ (os : List Node). count_by (on_queue q) os) (command_node n ns e) in
         let counted = counted_more q (commands_in ns) n u f in
         omega arith

@@ -21,13 +21,13 @@ use Rattle.vk_order.specs.declared.lines.Line.TheVariants.{Commands as OfCommand
 use Rattle.vk_order.specs.Lines.{line_of}
 use Rattle.vk_order.specs.Submission.{CommandsFollow, OrderedAreSubmitted}
 use Rattle.vk_order.specs.Inner.Clocks.{place, on_line}
-use Rattle.vk_order.proofs.PlaceLemmas.{place_stays}
+use Rattle.vk_order.proofs.PlaceLemmas.{place_stays, place-top}
 use Rattle.vk_order.proofs.ElementPlaces.{with_member}
 use Rattle.vk_sync.specs.declared.board.Command.{Command}
 use Rattle.vk_sync.specs.Ready.{count_on, MayCome}
 use Rattle.vk_offers.specs.IsOffers.{commands_in, piece_count, CountsBefore, is_run, PiecesStay, IsStarted, AreStarted}
 use Rattle.vk_offers.specs.Inner.Starting.{is_run_in_pieces}
-use Rattle.vk_offers.proofs.Commands.{on_queue, command_at, all_on, of_line, place_kept, place_next, place_beyond, other_node, command_node, get_before, get_last, get_more}
+use Rattle.vk_offers.proofs.Commands.{on_queue, command_at, all_on, of_line, place_kept, place_next, other_node, command_node, get_before, get_last, get_more}
 use Rattle.vk_offers.proofs.Offering.{command_line, same_count}
 
 -- ---- the acts of a point
@@ -169,7 +169,7 @@ at_place (n ∷ ns) numbers q r lt = go (nat_lt r (place ns (OfCommands q) (leng
     number = numbers.0
 
     total : (t : Bool) → on_line (OfCommands q) n ≡ t → place (n ∷ ns) (OfCommands q) (suc (length ns)) ≡ place ns (OfCommands q) (length ns) + (if t then 1 else 0)
-    total t e = place_next n ns (OfCommands q) (suc (length ns)) t (omega (arith, number)) e ∙ ap (λ (k : ℕ). k + (if t then 1 else 0)) (place_beyond ns numbers.1 (OfCommands q) (suc (length ns)) (omega arith))
+    total t e = place_next n ns (OfCommands q) (suc (length ns)) t (omega (arith, number)) e ∙ ap (λ (k : ℕ). k + (if t then 1 else 0)) (place-top ns numbers.1 (OfCommands q) (suc (length ns)) (omega arith))
 
     go : (s t u : Bool) → nat_lt r (place ns (OfCommands q) (length ns)) ≡ s → is_command n.act ≡ t → on_queue q n ≡ u → (r < place ns (OfCommands q) (length ns) → Found q r ns) → Found q r (n ∷ ns)
     go true t u e f g rest =

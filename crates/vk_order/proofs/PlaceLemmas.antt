@@ -1,6 +1,7 @@
 -- Places in lines, when nodes come, and what has no siblings: what callers show of a new node.
 use Rattle.std.proofs.Common.{◌≡◌, ℕ, ◌≤◌, Some, List, [], ◌∷◌, length, Bool, true, false, ◌&&◌, refl, ap, ◌∙◌, arith}
-use Rattle.std.specs.Prelude.{Contains}
+use Rattle.std.specs.Prelude.{Contains, nat_lt}
+use Rattle.std.proofs.lemmas.Bool.{lt-ltb}
 use Rattle.vk_model.specs.Trace.Point.{Point}
 use Rattle.vk_model.specs.Sync.Node.{Node, Act, with_acts, same_place}
 use Rattle.vk_model.specs.Sync.Edge.{is_element}
@@ -11,7 +12,7 @@ pub use Rattle.vk_order.proofs.ClockLemmas.{place-older, place-grows, line_itsel
 use Rattle.vk_order.specs.declared.new_node.NewNode.{NewNode}
 use Rattle.vk_order.specs.Frontiers.{IsNewNode}
 use Rattle.vk_order.specs.Lines.{line_of}
-use Rattle.vk_model.specs.Sync.Before.{before}
+use Rattle.vk_model.specs.Sync.Before.{before, IsNumbered}
 use Rattle.vk_order.proofs.ByEdges.{by_last, by_edge}
 
 -- a point that comes changes no place of an older node
@@ -20,6 +21,16 @@ place_stays p [] ns l k le = refl
 place_stays p (a ∷ more) ns l k le =
     let n : Node = record { number = length ns; point = p; act = a } in
     place_stays p more (n ∷ ns) l k (omega arith) ∙ place-older n ns refl l k le
+
+-- no node has a number above the count
+pub place-top : (ns : List Node) → IsNumbered ns → (l : Line) (k : ℕ) → length ns ≤ k → place ns l k ≡ place ns l (length ns)
+place-top [] numbers l k le = refl
+place-top (n ∷ ns) numbers l k le =
+    let a : nat_lt n.number k ≡ true = lt-ltb n.number k (let at = numbers.0 in omega arith) in
+    let b : nat_lt n.number (length (n ∷ ns)) ≡ true = lt-ltb n.number (length (n ∷ ns)) (let at = numbers.0 in omega arith) in
+    let c = place-top ns numbers.1 l k (omega arith) in
+    let d = place-top ns numbers.1 l (length (n ∷ ns)) (omega arith) in
+    rw (a, b, c, d) refl
 
 -- what is no element has no siblings
 pub apart_from : (ns : List Node) (n : Node) → is_element n.act ≡ false → IsApartFrom ns n

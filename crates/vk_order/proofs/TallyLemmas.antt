@@ -3,13 +3,12 @@ use Rattle.std.proofs.Common.{◌≡◌, ◌≢◌, ◌⊎◌, inl, inr, ⊎_eli
 use Rattle.std.specs.Prelude.{nat_lt, Contains, min, slice_get, slice_set, is_some, if◌then◌else◌}
 use Rattle.std.specs.Option.{option_map}
 use Rattle.std.specs.List.{list_any}
-use Rattle.std.proofs.lemmas.Bool.{lt-ltb, and_parts, and_from}
+use Rattle.std.proofs.lemmas.Bool.{and_parts, and_from}
 use Rattle.std.proofs.lemmas.List.{take_all, map-append}
 use Rattle.std.proofs.lemmas.Option.{slice_get-get_or, slice_get-map}
 use Rattle.std.proofs.Math.Seq.{map-set_same}
 use Rattle.vk_model.specs.Basics.{holds}
 use Rattle.vk_model.specs.Sync.Node.{Node}
-use Rattle.vk_model.specs.Sync.Before.{IsNumbered}
 use Rattle.vk_model.proofs.Lists.Members.{contains-cons, place_has, member_passes, some_member}
 use Rattle.vk_model.proofs.Lists.Truths.{no, bool_same}
 use Rattle.vk_order.specs.declared.acts.Row.{Row}
@@ -34,6 +33,7 @@ use Rattle.vk_order.proofs.ListLemmas.{clock_push, index_same, now_listed, still
 use Rattle.vk_order.proofs.RowJoins.{rows_as}
 use Rattle.vk_order.proofs.FrontLemmas.{front_same, front_stays}
 use Rattle.vk_order.proofs.OwnLemmas.{lines_length, tally_at, none_there, no_place, count_there, index_low, class_coming}
+use Rattle.vk_order.proofs.PlaceLemmas.{place-top}
 
 -- ---- the joins of the lines that pass a test
 
@@ -149,16 +149,6 @@ set_cases (x ∷ xs) zero y z zero e = inl (refl, cc)
 set_cases (x ∷ xs) zero y z (suc j) e = inr ((λ h. omega arith), e)
 set_cases (x ∷ xs) (suc i) y z zero e = inr ((λ h. omega arith), e)
 set_cases (x ∷ xs) (suc i) y z (suc j) e = ⊎_elim (λ h. inl (let a = h.0 in omega arith, h.1)) (λ h. inr ((λ g. h.0 (omega arith)), h.1)) (set_cases xs i y z j e)
-
--- no node has a number above the count
-place-top : (ns : List Node) → IsNumbered ns → (l : Line) (k : ℕ) → length ns ≤ k → place ns l k ≡ place ns l (length ns)
-place-top [] numbers l k le = refl
-place-top (n ∷ ns) numbers l k le =
-    let a : nat_lt n.number k ≡ true = lt-ltb n.number k (let at = numbers.0 in omega arith) in
-    let b : nat_lt n.number (length (n ∷ ns)) ≡ true = lt-ltb n.number (length (n ∷ ns)) (let at = numbers.0 in omega arith) in
-    let c = place-top ns numbers.1 l k (omega arith) in
-    let d = place-top ns numbers.1 l (length (n ∷ ns)) (omega arith) in
-    rw (a, b, c, d) refl
 
 pub lines-set : (ts : List LineTally) (line : Line) (at : ℕ) (u : LineTally) → index_in (lines_of ts) line ≡ Some at → u.line ≡ line → lines_of (slice_set ts at u) ≡ lines_of ts
 lines-set ts line at u found is =
