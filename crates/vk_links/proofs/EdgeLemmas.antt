@@ -1,17 +1,18 @@
 -- Edges and lines of nodes.
-use Rattle.std.proofs.Common.{◌≡◌, ℕ, ◌<◌, List, Bool, true, false, ◌&&◌, ◌||◌, IsTrue, Some, refl, ap, ◌∙◌}
+use Rattle.std.proofs.Common.{◌≡◌, ◌<◌, List, Bool, true, false, ◌&&◌, ◌||◌, IsTrue, Some, refl, ap, ◌∙◌}
 use Rattle.std.specs.Prelude.{nat_lt, Contains}
 use Rattle.std.proofs.lemmas.Bool.{lt-ltb}
 use Rattle.vk_model.specs.Trace.Point.{Past}
 use Rattle.vk_model.specs.declared.command.Cmd.{Cmd}
-use Rattle.vk_model.specs.Sync.Node.{Node, Act, Hosts, Waits, Signals, Runs, Depends, Barrier, SetOf, AwaitOf, nodes}
+use Rattle.vk_model.specs.Sync.Node.{Node, Runs, nodes}
 use Rattle.vk_model.specs.Sync.Edge.{edge, earlier, by_semaphore, signaled_by, is_host}
 use Rattle.vk_model.specs.Sync.Before.{before, direct}
 use Rattle.vk_model.proofs.Sync.Numbers.{numbered}
 use Rattle.vk_model.proofs.Sync.Paths.{before_of_path}
 use Rattle.vk_order.specs.Inner.Leads.{is_of_sets}
 use Rattle.vk_order.specs.Inner.Links.{unsignaled}
-use Rattle.vk_order.specs.Lines.{line_on, class_on, line_of, class_of}
+use Rattle.vk_order.specs.Lines.{line_of, class_of}
+use Rattle.vk_order.proofs.AvailabilityLemmas.{lined}
 
 or-false : (b : Bool) → (b || false) ≡ b
 or-false true = refl
@@ -36,14 +37,5 @@ module _ (past : Past) where
   edge_before m n cm cn e = before_of_path (nodes past) (numbered past) m n cm cn (direct cm cn e)
 
 -- what is no element of a set has a line
-line_known : (q : ℕ) (a : Act) → is_of_sets (class_on q a) ≡ false → line_on q a ≡ Some (class_on q a)
-line_known q (Hosts x) h = refl
-line_known q (Waits s) h = refl
-line_known q (Signals s) h = refl
-line_known q (Runs c) h = refl
-line_known q (Depends Barrier e) h = refl
-line_known q (Depends (AwaitOf v k) e) h = refl
-line_known q (Depends (SetOf v k) e) h = absurd cc
-
 pub line_is : (n : Node) → is_of_sets (class_of n) ≡ false → line_of n ≡ Some (class_of n)
-line_is n h = line_known n.point.queue n.act h
+line_is n h = lined n.point.queue n.act h

@@ -39,6 +39,6 @@ mod BarrierLemmas
 mod StampedLemmas
 pub mod PlaceLemmas
 mod SubmissionLemmas
-mod AvailabilityLemmas
+pub mod AvailabilityLemmas
 mod AfterLemmas
 mod SeenLemmas
