@@ -25,14 +25,10 @@ use Rattle.vk_order.specs.Lines.{class_on}
 use Rattle.vk_touches.specs.declared.touches.Spot.{Spot}
 use Rattle.vk_touches.specs.declared.touches.Touch.TheVariants as touch
 use Rattle.vk_touches.specs.Touched.{next_node, next_spot, act_next, class_next, line_next, only_if, touches, touch_next, last_touch, flush_next, invalidation_next, first_flush, last_invalidation, is_invalidated, flush_spot, spot_of}
-use Rattle.vk_touches.proofs.Touching.LastNodes.{GivesOwn, HasLast, last_found, last_from, toucher_is, next_there, touches_alone, only_new}
+use Rattle.vk_touches.proofs.Touching.LastNodes.{GivesOwn, HasLast, last_found, last_from, toucher_is, next_there, touches_alone, only_new, picked}
 use Rattle.vk_touches.proofs.Touching.Spots.{spot_stays, place_stays}
 
 -- ---- host entries that flush and invalidate
-
-pub picked : (test : Bool) (n v : Node) → only_if test n ≡ Some v → (test ≡ true) × (n ≡ v)
-picked true n v is = (refl, cc)
-picked false n v is = absurd cc
 
 -- what flushes a byte is an entry of the host
 pub flush_alone : (b : Byte) (d : Action) → flushes (act_next d) b ≡ true → (x : Entry) × (d ≡ Host x)

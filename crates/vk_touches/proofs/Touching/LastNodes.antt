@@ -64,7 +64,7 @@ last_from of own (q ∷ newer) before p x gives = go (of (newer ++ p ∷ before)
 
 -- ---- who touches, and who signals
 
-picked : (test : Bool) (n v : Node) → only_if test n ≡ Some v → (test ≡ true) × (n ≡ v)
+pub picked : (test : Bool) (n v : Node) → only_if test n ≡ Some v → (test ≡ true) × (n ≡ v)
 picked true n v is = (refl, cc)
 picked false n v is = absurd cc
 
