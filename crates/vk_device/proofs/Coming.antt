@@ -53,7 +53,7 @@ use Rattle.vk_model.proofs.Lists.Members.{contains-head}
 use Rattle.vk_laws.specs.Lifetimes.{CommandsNameLive}
 use Rattle.vk_laws.proofs.Nodes.Counts.{more_nodes}
 use Rattle.vk_laws.proofs.Nodes.Prefixes.{old_has}
-use Rattle.vk_offers.specs.Inner.Starting.{is_run_in_pieces}
+use Rattle.vk_offers.specs.IsOffers.{is_run_in_pieces}
 use Rattle.vk_offers.proofs.Commands.{command_node}
 use Rattle.vk_offers.proofs.Growing.{run_acts, others_stay, none_run}
 use Rattle.vk_device.proofs.Staying.{later_fits}

@@ -1,2 +1,2 @@
-pub mod Repaired
 pub mod Explained
+pub mod Inner

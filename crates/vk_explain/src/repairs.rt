@@ -1,6 +1,6 @@
 ghost use Rattle.std.specs.Prelude.{◌≡◌, ◌≤◌, IfOk, Some, length};
 ghost use Rattle.vk_model.specs.Rules.Table.{first_fault};
-ghost use Rattle.vk_explain.specs.Repaired.{IsSought};
+ghost use Rattle.vk_explain.specs.Inner.Repaired.{IsSought};
 
 use std::alloc::{AllocError, Global};
 use vk_model::{At, Entry, Rule};

@@ -51,7 +51,7 @@ impl Past<'_> {
     }
 
     /// Whether the earlier node comes before the later one in every allowed order.
-    pub fn is_ordered(&self, pair: Pair) -> bool
+    pub(crate) fn is_ordered(&self, pair: Pair) -> bool
         requires earlier { pair.earlier < length (nodes self.now) }
         requires later { pair.later < length (nodes self.now) }
         ensures { (x y : Node) → IsPair self.now pair x y → result ≡ before (nodes self.now) x y }
@@ -238,7 +238,7 @@ impl Past<'_> {
 
     /// A byte at which the later node of a pair, which accesses these areas, is in hazard with the
     /// earlier one.
-    pub fn hazard_between(
+    pub(crate) fn hazard_between(
         &self,
         hazard: Hazard,
         pair: Pair,

@@ -29,8 +29,7 @@ use Rattle.vk_model.proofs.Lists.Truths.{clash}
 use Rattle.vk_model.proofs.Sync.Numbers.{number_below, numbered}
 use Rattle.vk_laws.proofs.Forms.Unchanged.{host_owner, transitioned_owner}
 use Rattle.vk_order.specs.declared.parts.Spot.{Spot}
-use Rattle.vk_order.specs.Lines.{line_of}
-use Rattle.vk_order.specs.Inner.Clocks.{place}
+use Rattle.vk_order.specs.Lines.{line_of, place}
 use Rattle.vk_order.proofs.PlaceLemmas.{place-older}
 use Rattle.vk_order.specs.declared.frontier.Frontier.{Frontier}
 use Rattle.vk_order.specs.Frontiers.{IsFrontier}

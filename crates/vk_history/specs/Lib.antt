@@ -10,6 +10,6 @@ pub mod Counted
 pub mod Uses
 pub mod Owners
 pub mod Bound
-pub mod Passing
 pub mod Known
 pub mod Tabled
+pub mod Inner

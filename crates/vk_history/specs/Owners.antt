@@ -13,8 +13,7 @@ use Rattle.vk_model.specs.World.Ownership.{Transfer, Stays, Release, Acquire, Ne
 use Rattle.vk_model.specs.Rules.Owners.{is_released, is_release_of}
 use Rattle.vk_model.specs.Sync.Node.{Node, nodes}
 use Rattle.vk_order.specs.declared.parts.Spot.{Spot}
-use Rattle.vk_order.specs.Lines.{line_of}
-use Rattle.vk_order.specs.Inner.Clocks.{place}
+use Rattle.vk_order.specs.Lines.{line_of, place}
 use Rattle.vk_history.specs.declared.owners.Owned.{Owned}
 use Rattle.vk_history.specs.declared.owners.Owned.TheVariants as owned
 use Rattle.vk_history.specs.declared.owners.Owners.{Owners}

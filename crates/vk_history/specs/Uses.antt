@@ -13,8 +13,7 @@ use Rattle.vk_model.specs.World.Ownership.{named_by}
 use Rattle.vk_model.specs.Sync.Node.{Node, nodes, acts}
 use Rattle.vk_model.specs.Sync.Complete.{named_by_act, nodes_for, submitted}
 use Rattle.vk_order.specs.declared.lines.Line.TheVariants.{Elements as OfElements}
-use Rattle.vk_order.specs.Lines.{line_of}
-use Rattle.vk_order.specs.Inner.Clocks.{place}
+use Rattle.vk_order.specs.Lines.{line_of, place}
 use Rattle.vk_history.specs.declared.counts.Counts.{Counts}
 use Rattle.vk_history.specs.declared.last_uses.ElementCounts.{ElementCounts}
 use Rattle.vk_history.specs.declared.last_uses.LastUse.{LastUse}

@@ -4,7 +4,7 @@ ghost use Rattle.vk_model.specs.Sync.Node.{Node};
 ghost use Rattle.vk_model.specs.Sync.Before.{IsNumbered};
 ghost use Rattle.vk_order.specs.Barriers.{element_node};
 ghost use Rattle.vk_order.specs.Frontiers.{IsFrontier};
-ghost use Rattle.vk_history.specs.Passing.{AreSpots, spot_after};
+ghost use Rattle.vk_history.specs.Inner.Passing.{AreSpots, spot_after};
 
 use crate::last_uses::ElementCounts;
 use vk_model::Element;

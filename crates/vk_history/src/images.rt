@@ -2,7 +2,7 @@ ghost use Rattle.std.specs.Prelude.{◌≡◌, ℕ, OnOk, Some};
 ghost use Rattle.vk_model.specs.declared.resource.ImageInfo.{ImageInfo as AnyImage};
 ghost use Rattle.vk_image_bytes.specs.Ranges.{AreRanges};
 ghost use Rattle.vk_history.specs.Contents.{AreShort, IsCleared, IsDefined, IsDiscarded};
-ghost use Rattle.vk_history.specs.Passing.{IsMarked, IsTransitioned};
+ghost use Rattle.vk_history.specs.Inner.Passing.{IsMarked, IsTransitioned};
 
 use crate::elements::is_transition;
 use crate::ranges::{assign_all, touch_all, touch_by_transition};

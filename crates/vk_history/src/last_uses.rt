@@ -11,7 +11,7 @@ ghost use Rattle.vk_order.specs.Frontiers.{IsFrontier, IsNewNode};
 ghost use Rattle.vk_order.specs.Inner.Kept.{clock_at};
 ghost use Rattle.vk_model.specs.Trace.Point.{Point as AnyPoint};
 ghost use Rattle.vk_order.specs.declared.lines.Line.TheVariants.{Elements as OfElements};
-ghost use Rattle.vk_order.specs.Inner.Clocks.{same_bit};
+ghost use Rattle.vk_order.specs.Lines.{same_bit};
 ghost use Rattle.vk_history.specs.declared.last_uses.LastUse.{LastUse as AnyUse};
 ghost use Rattle.vk_history.specs.Uses.{uses_in, AreLast, IsKeptNow, AreKeptNow, elements_on, AreElementCounts, names_it};
 

@@ -1,7 +1,7 @@
 ghost use Rattle.std.specs.Prelude.{◌≡◌, ◌&&◌, not, OnOk};
 ghost use Rattle.vk_model.specs.World.Ownership as ownership;
 ghost use Rattle.vk_layouts.specs.Owned.{transfer_of};
-ghost use Rattle.vk_history.specs.Passing.{IsPassed, IsReleased, IsHandedOver, IsImagePassed, IsUsedByTransition};
+ghost use Rattle.vk_history.specs.Inner.Passing.{IsPassed, IsReleased, IsHandedOver, IsImagePassed, IsUsedByTransition};
 
 use crate::elements::is_transition;
 use crate::families::family_of;

@@ -10,7 +10,7 @@ ghost use Rattle.vk_layouts.specs.Owned.{transfer_of};
 ghost use Rattle.vk_order.specs.Frontiers.{IsFrontier};
 ghost use Rattle.vk_touches.specs.declared.touches.LastTouches.{LastTouches};
 ghost use Rattle.vk_history.specs.Contents.{AreAllAt, BecomesIn};
-ghost use Rattle.vk_history.specs.Passing.{AreOnResources, IsPassed, IsImagePassed, is_on_resource, touched_by, touched_by_all};
+ghost use Rattle.vk_history.specs.Inner.Passing.{AreOnResources, IsPassed, IsImagePassed, is_on_resource, touched_by, touched_by_all};
 
 use crate::contents::Contents;
 use crate::element_spots::ElementSpots;

@@ -14,11 +14,10 @@ use Rattle.vk_model.proofs.Lists.Truths.{clash, bool_same}
 use Rattle.vk_model.proofs.Sync.Numbers.{numbered, number_below, unique}
 use Rattle.vk_model.proofs.Sync.Paths.{leads_on}
 use Rattle.vk_model.proofs.Sync.HostActs.{submit_host, flush_host, same_available}
-use Rattle.vk_order.specs.Lines.{line_of, class_of}
+use Rattle.vk_order.specs.Lines.{line_of, class_of, is_of_sets}
 use Rattle.vk_order.specs.Prefixes.{LinePrefix}
-use Rattle.vk_order.specs.Inner.Leads.{is_of_sets}
-use Rattle.vk_order.specs.Inner.Availability as availability
-use Rattle.vk_order.specs.Inner.Availability.{made_available_by}
+use Rattle.vk_order.specs.Edges as edges
+use Rattle.vk_order.specs.Edges.{made_available_by}
 use Rattle.vk_links.specs.declared.availability.First.{First}
 use Rattle.vk_links.specs.Links.{cached, needs_flush, flushes_after, makes_available, is_available_at, HasNone, IsFirstNode}
 use Rattle.vk_links.specs.Inner.Availability.{IsAvailableFrom, AreFirsts, MakesAvailable, IsListed, Represents}
@@ -82,7 +81,7 @@ module _ (past : Past) (w : Node) (cw : Contains (nodes past) w) (b : Byte) wher
   module _ (from : ℕ) (is_from : IsAvailableFrom past w b from) where
     pub made_available_same : (a : Act) → w.act ≡ a → (p : Node) → Contains all p → made_available_by w a from b p ≡ available_by (cached past) all w a b p
     made_available_same (Runs c) is p cp =
-        ap (λ (t : Bool). t && availability.makes_available b p) (sym (edge_from_command all w p c is)) ∙ ap (λ (t : Bool). edge all w p && t) (same_available (cached past) all p b p.act)
+        ap (λ (t : Bool). t && edges.makes_available b p) (sym (edge_from_command all w p c is)) ∙ ap (λ (t : Bool). edge all w p && t) (same_available (cached past) all p b p.act)
     made_available_same (Hosts x) is p cp = go (is_submit p.act) refl
       where
         go : (t : Bool) → is_submit p.act ≡ t → (is_submit p.act && nat_lt from p.number) ≡ (is_submit p.act && before all w p && (not (cached past b) || passes (cached past) all (λ f. flushes f b) w p))

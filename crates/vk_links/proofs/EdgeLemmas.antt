@@ -9,9 +9,8 @@ use Rattle.vk_model.specs.Sync.Edge.{edge, earlier, by_semaphore, signaled_by, i
 use Rattle.vk_model.specs.Sync.Before.{before, direct}
 use Rattle.vk_model.proofs.Sync.Numbers.{numbered}
 use Rattle.vk_model.proofs.Sync.Paths.{before_of_path}
-use Rattle.vk_order.specs.Inner.Leads.{is_of_sets}
-use Rattle.vk_order.specs.Inner.Links.{unsignaled}
-use Rattle.vk_order.specs.Lines.{line_of, class_of}
+use Rattle.vk_order.specs.Lines.{is_of_sets, line_of, class_of}
+use Rattle.vk_order.specs.Edges.{unsignaled}
 use Rattle.vk_order.proofs.AvailabilityLemmas.{lined}
 
 or-false : (b : Bool) → (b || false) ≡ b

@@ -7,7 +7,7 @@ use Rattle.vk_model.specs.Sync.Edge.{is_host}
 use Rattle.vk_model.specs.Sync.Seen.{Access, makes_writes_visible, to_host, host_mask}
 use Rattle.vk_order.specs.declared.acts.Row.{Row}
 use Rattle.vk_order.specs.PointViews.{act_of, point_of, node_of}
-use Rattle.vk_order.specs.Inner.Availability as availability
+use Rattle.vk_order.specs.Edges as edges
 use Rattle.vk_links.specs.Links.{cached, is_available_at, shows_host}
 
 same_visible : (cached : Byte → Bool) (ns : List Node) (mask : ℕ) (b : Byte) (i j : ℕ) (p : Point) (own a : Act) → makes_writes_visible (λ c. false) [] mask b (record { number = i; point = p; act = own }) a ≡ makes_writes_visible cached ns mask b (record { number = j; point = p; act = own }) a
@@ -18,7 +18,7 @@ same_visible cached ns mask b i j p own (Waits s) = refl
 same_visible cached ns mask b i j p own (Runs c) = refl
 
 pub shows_is : (past : Past) (w a : Node) (k : Access) (b : Byte) (i : ℕ) (r : Row) → is_host a.act ≡ true
-    → ((to_host (act_of r.act) && availability.makes_visible (host_mask k) b (node_of 0 r)) && is_available_at past w b (node_of i r)) ≡ shows_host past w a k b (node_of i r)
+    → ((to_host (act_of r.act) && edges.makes_visible (host_mask k) b (node_of 0 r)) && is_available_at past w b (node_of i r)) ≡ shows_host past w a k b (node_of i r)
 shows_is past w a k b i r on_host =
     let n : Node = node_of i r in
     ap (λ (t : Bool). (to_host (act_of r.act) && t) && is_available_at past w b n) (same_visible (cached past) (nodes past) (host_mask k) b 0 i (point_of r.point) (act_of r.act) (act_of r.act))

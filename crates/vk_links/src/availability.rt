@@ -6,7 +6,7 @@ ghost use Rattle.vk_model.specs.World.Bytes.{Byte as AnyByte};
 ghost use Rattle.vk_order.specs.Bytes.{byte_of};
 ghost use Rattle.vk_order.specs.PointViews.{act_of, node_of};
 ghost use Rattle.vk_order.specs.Lines.{class_of};
-ghost use Rattle.vk_order.specs.Inner.Availability.{made_available_by};
+ghost use Rattle.vk_order.specs.Edges.{made_available_by};
 ghost use Rattle.vk_facts.specs.Hazards.{node_at};
 ghost use Rattle.vk_links.specs.Links.{needs_flush, flushes_after, makes_available, is_available_at, IsFirst};
 ghost use Rattle.vk_links.specs.Inner.Availability.{IsAvailableFrom, IsWrite, MakesAvailable, IsListed, AreFirsts};

@@ -15,7 +15,7 @@ use Rattle.vk_model.proofs.Sync.Numbers.{number_below}
 use Rattle.vk_model.proofs.Lists.Members.{none_in, contains-cons, contains-head, contains-tail}
 use Rattle.vk_order.specs.declared.lines.Line.{Line}
 use Rattle.vk_order.specs.declared.lines.Line.TheVariants.{Commands as OfCommands}
-use Rattle.vk_order.specs.Inner.Clocks.{place, on_line}
+use Rattle.vk_order.specs.Lines.{place, on_line}
 use Rattle.vk_order.proofs.PlaceLemmas.{place-top}
 use Rattle.vk_offers.specs.IsOffers.{commands_in}
 

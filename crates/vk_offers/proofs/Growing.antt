@@ -18,15 +18,14 @@ use Rattle.vk_model.specs.Run.Runs.{Name, is_done}
 use Rattle.vk_model.proofs.Sync.Numbers.{number_below, numbered}
 use Rattle.vk_model.proofs.Lists.Members.{none_in, contains-cons, contains-head, contains-tail, mapped_from}
 use Rattle.vk_order.specs.declared.lines.Line.TheVariants.{Commands as OfCommands}
-use Rattle.vk_order.specs.Lines.{line_of}
+use Rattle.vk_order.specs.Lines.{line_of, place, on_line}
 use Rattle.vk_order.specs.Submission.{CommandsFollow, OrderedAreSubmitted}
-use Rattle.vk_order.specs.Inner.Clocks.{place, on_line}
 use Rattle.vk_order.proofs.PlaceLemmas.{place_stays, place-top}
 use Rattle.vk_order.proofs.ElementPlaces.{with_member}
 use Rattle.vk_sync.specs.declared.board.Command.{Command}
 use Rattle.vk_sync.specs.Ready.{count_on, MayCome}
 use Rattle.vk_offers.specs.IsOffers.{commands_in, piece_count, CountsBefore, is_run, PiecesStay, IsStarted, AreStarted}
-use Rattle.vk_offers.specs.Inner.Starting.{is_run_in_pieces}
+use Rattle.vk_offers.specs.IsOffers.{is_run_in_pieces}
 use Rattle.vk_offers.proofs.Commands.{on_queue, command_at, all_on, of_line, place_kept, place_next, other_node, command_node, get_before, get_last, get_more}
 use Rattle.vk_offers.proofs.Offering.{command_line, same_count}
 

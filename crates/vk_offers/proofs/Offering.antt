@@ -15,8 +15,7 @@ use Rattle.vk_model.specs.Sync.Before.{before}
 use Rattle.vk_model.specs.Run.Runs.{Name, is_done, node_pieces, is_free, offered}
 use Rattle.vk_model.proofs.Sync.Numbers.{numbered}
 use Rattle.vk_order.specs.declared.lines.Line.TheVariants.{Commands as OfCommands}
-use Rattle.vk_order.specs.Lines.{line_of}
-use Rattle.vk_order.specs.Inner.Clocks.{place}
+use Rattle.vk_order.specs.Lines.{line_of, place}
 use Rattle.vk_sync.specs.declared.board.Command.{Command}
 use Rattle.vk_sync.specs.Ready.{count_on, is_among, is_met, pieces_of, ready}
 use Rattle.vk_offers.specs.IsOffers.{commands_in, piece_count, number_of, name_of, AreStarted}

@@ -15,16 +15,16 @@ use Rattle.vk_model.specs.Run.Runs.{Name, same_name, is_done}
 use Rattle.vk_model.proofs.Sync.Numbers.{number_below, numbered}
 use Rattle.vk_model.proofs.Lists.Members.{none_in, contains-cons, contains-tail, flat_from, mapped_from, filtered, range_from}
 use Rattle.vk_order.specs.declared.lines.Line.TheVariants.{Commands as OfCommands}
-use Rattle.vk_order.specs.Lines.{line_of}
+use Rattle.vk_order.specs.Lines.{line_of, place}
 use Rattle.vk_order.specs.Frontiers.{IsFrontier}
 use Rattle.vk_order.specs.Submission.{CommandsFollow, OrderedAreSubmitted}
-use Rattle.vk_order.specs.Inner.Clocks.{place}
 use Rattle.vk_sync.specs.declared.board.Command.{Command}
 use Rattle.vk_sync.specs.declared.ready.Piece.{Piece}
 use Rattle.vk_sync.specs.Ready.{ready, is_met, pieces_of, after_piece, count_on, MayCome}
 use Rattle.vk_offers.specs.declared.offers.Offers.{Offers}
 use Rattle.vk_offers.specs.IsOffers.{IsOffers, ComesNext, CountsBefore, AreStarted, IsPieceOf, commands_in, piece_count, number_of, name_of, is_free_next}
-use Rattle.vk_offers.specs.Inner.Starting.{MayStart, is_run_in_pieces}
+use Rattle.vk_offers.specs.Inner.Starting.{MayStart}
+use Rattle.vk_offers.specs.IsOffers.{is_run_in_pieces}
 use Rattle.vk_offers.proofs.Commands.{command_at, place_kept, command_node}
 use Rattle.vk_offers.proofs.Offering.{met}
 use Rattle.vk_offers.proofs.Growing.{get_some, others_stay, none_run, with_next, next_started, others_started, more_started, may_come, is_false, all_there}

@@ -5,7 +5,7 @@ use Rattle.vk_model.specs.declared.command.Cmd.{Cmd}
 use Rattle.vk_model.specs.declared.command.Cmd.TheVariants as cmd
 use Rattle.vk_model.specs.declared.entry.Entry.{Entry}
 use Rattle.vk_model.specs.Basics.{below}
-use Rattle.vk_model.specs.Trace.Point.{Past, Point, Run}
+use Rattle.vk_model.specs.Trace.Point.{Past, Point, Action, Run}
 use Rattle.vk_model.specs.Trace.Order.{host}
 use Rattle.vk_model.specs.Trace.Structure.{IsOrdered}
 use Rattle.vk_model.specs.Sync.Node.{Node, Act, Runs, Hosts, nodes}
@@ -14,10 +14,9 @@ use Rattle.vk_model.specs.Sync.Before.{before}
 use Rattle.vk_model.specs.Run.Pieces.{pieces}
 use Rattle.vk_model.specs.Run.Runs.{Name, is_done, node_pieces}
 use Rattle.vk_order.specs.declared.lines.Line.TheVariants.{Commands as OfCommands}
-use Rattle.vk_order.specs.Lines.{line_of}
+use Rattle.vk_order.specs.Lines.{line_of, place}
 use Rattle.vk_order.specs.Queries.{IsNew}
 use Rattle.vk_order.specs.Frontiers.{IsFrontier}
-use Rattle.vk_order.specs.Inner.Clocks.{place}
 use Rattle.vk_sync.specs.declared.board.Command.{Command}
 use Rattle.vk_sync.specs.declared.ready.Piece.{Piece}
 use Rattle.vk_offers.specs.declared.offers.Offers.{Offers}
@@ -51,6 +50,11 @@ is_run (cmd.Barrier es) = false
 is_run (cmd.Set v ms) = false
 is_run (cmd.Await v ms) = false
 is_run c = true
+
+-- Whether an action is a command that is run in pieces.
+abbrev pub is_run_in_pieces : Action → Bool
+is_run_in_pieces (Run c) = is_run c
+is_run_in_pieces _ = false
 
 -- A point that comes changes no piece of the commands that were started: the resources that they name stay what they are (profile: ids aren't made twice).
 abbrev pub PiecesStay : Past → Point → Type 0

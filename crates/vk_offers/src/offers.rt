@@ -7,7 +7,8 @@ ghost use Rattle.vk_sync.specs.Ready.{ready};
 ghost use Rattle.vk_order.specs.Frontiers.{IsNewNode};
 ghost use Rattle.vk_offers.specs.IsOffers.{IsOffers, ComesNext, IsPieceOf, name_of, host_node, is_free_next, CountsBefore};
 ghost use Rattle.vk_offers.specs.IsOffers.{is_run};
-ghost use Rattle.vk_offers.specs.Inner.Starting.{StartReady, Starts, Passes, is_run_in_pieces};
+ghost use Rattle.vk_offers.specs.Inner.Starting.{StartReady, Starts, Passes};
+ghost use Rattle.vk_offers.specs.IsOffers.{is_run_in_pieces};
 
 use std::alloc::{AllocError, Global};
 use vk_model::{Cmd, Entry, before_is_order, growth_keeps};

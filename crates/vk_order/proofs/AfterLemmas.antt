@@ -16,7 +16,7 @@ use Rattle.vk_order.specs.declared.lines.Line.{Line}
 use Rattle.vk_order.specs.declared.writes.First.{First}
 use Rattle.vk_order.specs.PointViews.{act_of, node_of, nodes_after}
 use Rattle.vk_order.specs.Lines.{line_of, line_on, class_of}
-use Rattle.vk_order.specs.Inner.Links.{unsignaled}
+use Rattle.vk_order.specs.Edges.{unsignaled}
 use Rattle.vk_order.specs.Inner.Kept.{IsSet, IsStamped}
 use Rattle.vk_order.specs.Inner.Availability.{is_set_element, is_carried, is_marked, is_after, AreFirsts}
 use Rattle.vk_order.proofs.RowLemmas.{numbered_after}

@@ -8,9 +8,8 @@ use Rattle.vk_model.proofs.Lists.Members.{none_passes_any, member_passes}
 use Rattle.vk_order.specs.declared.acts.Row.{Row}
 use Rattle.vk_order.specs.PointViews.{act_of, point_of, node_of, nodes_after}
 use Rattle.vk_model.proofs.Lists.Truths.{no}
-use Rattle.vk_order.specs.Lines.{class_on, line_on}
-use Rattle.vk_order.specs.Inner.Leads.{is_of_sets}
-use Rattle.vk_order.specs.Inner.Links.{unsignaled}
+use Rattle.vk_order.specs.Lines.{class_on, line_on, is_of_sets}
+use Rattle.vk_order.specs.Edges.{unsignaled}
 use Rattle.vk_order.specs.Inner.Availability.{is_set_element, is_carried, comes_after_sets, HasSets}
 use Rattle.vk_model.specs.Trace.Point.{Point}
 use Rattle.vk_order.proofs.Arrange.{or-false}

@@ -8,9 +8,9 @@ use Rattle.vk_model.specs.Sync.Edge.{edge}
 use Rattle.vk_model.specs.Sync.Before.{before, IsNumbered}
 use Rattle.vk_order.specs.declared.lines.Line.{Line}
 use Rattle.vk_order.specs.declared.lines.Line.TheVariants.{Host as OfHost, Commands as OfCommands, Signals as OfSignals, Elements as OfElements, Sets as OfSets, Waits as OfWaits}
-use Rattle.vk_order.specs.Lines.{line_of}
+use Rattle.vk_order.specs.Lines.{line_of, same_bit, same_line, on_line, place}
 use Rattle.vk_order.specs.Prefixes.{Leads}
-use Rattle.vk_order.specs.Inner.Clocks.{same_bit, same_line, on_line, place, Clock, IsClock, IsJoin, IsWhole, joined, itself, extended}
+use Rattle.vk_order.specs.Inner.Clocks.{Clock, IsClock, IsJoin, IsWhole, joined, itself, extended}
 use Rattle.vk_model.proofs.Lists.Members.{none_in, contains-cons, contains-head, contains-tail}
 use Rattle.vk_model.proofs.Lists.Truths.{no}
 use Rattle.vk_model.proofs.Sync.Numbers.{number_below, unique}

@@ -15,7 +15,7 @@ use Rattle.vk_order.specs.declared.awaiting.Reach.{Reach}
 use Rattle.vk_order.specs.declared.acts.Row.{Row}
 use Rattle.vk_order.specs.PointViews.{node_of, nodes_after}
 use Rattle.vk_order.specs.Queries.{led_to}
-use Rattle.vk_order.specs.Inner.Links.{unsignaled}
+use Rattle.vk_order.specs.Edges.{unsignaled}
 use Rattle.vk_order.specs.Inner.Reaches.{Reaches}
 use Rattle.vk_order.proofs.ByEdges.{all_earlier}
 use Rattle.vk_order.proofs.RowLemmas.{nodes_after-append, length-nodes_after, numbered_after}

@@ -12,9 +12,8 @@ use Rattle.vk_model.specs.Basics.{holds}
 use Rattle.vk_model.specs.Sync.Node.{Node, Hosts, Waits, Signals, Runs, Depends, Barrier, SetOf, AwaitOf}
 use Rattle.vk_model.proofs.Lists.Truths.{no}
 use Rattle.vk_order.specs.declared.lines.Line.{Line}
-use Rattle.vk_order.specs.Lines.{line_of, class_of}
-use Rattle.vk_order.specs.Inner.Leads.{is_of_sets}
-use Rattle.vk_order.specs.Inner.Clocks.{same_line, on_line, place, Clock, IsClock, IsJoin, joined, itself}
+use Rattle.vk_order.specs.Lines.{line_of, class_of, is_of_sets, same_line, on_line, place}
+use Rattle.vk_order.specs.Inner.Clocks.{Clock, IsClock, IsJoin, joined, itself}
 use Rattle.vk_order.specs.Inner.Kept.{clock_at, IsKeptJoin, IsOwn}
 use Rattle.vk_order.specs.Inner.Places.{index_in}
 use Rattle.vk_order.proofs.ClockLemmas.{line_same, is_on, of_on, joins_meet, join_same}

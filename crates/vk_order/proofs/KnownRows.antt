@@ -17,9 +17,9 @@ use Rattle.vk_model.proofs.Sync.Paths.{edge_forward, forward, path_of_before, be
 use Rattle.vk_model.proofs.Sync.HostActs.{submit_host}
 use Rattle.vk_order.specs.declared.lines.Line.{Line}
 use Rattle.vk_order.specs.declared.lines.Line.TheVariants.{Host as OfHost, Commands as OfCommands, Signals as OfSignals, Elements as OfElements, Sets as OfSets, Waits as OfWaits}
-use Rattle.vk_order.specs.Lines.{has_transfer, has_host, element_class, line_on, line_of}
+use Rattle.vk_order.specs.Lines.{has_transfer, has_host, element_class, line_on, line_of, place}
 use Rattle.vk_order.specs.Prefixes.{from_transfer}
-use Rattle.vk_order.specs.Inner.Clocks.{place, Clock, IsClock}
+use Rattle.vk_order.specs.Inner.Clocks.{Clock, IsClock}
 use Rattle.vk_order.specs.Inner.Leads.{is_of_host, is_of_barriers}
 use Rattle.vk_order.specs.Inner.Rows.{makes_all_available, makes_queue_available, makes_all_visible_on_host, makes_available, shows, Knowledge, Available, Visible, OnHost, IsAvailable, IsKnown, Knows, KnowsOne, IsRow, IsKnownRow, IsRowJoin, makes_line_available}
 use Rattle.vk_order.proofs.LinePrefixes.{linked, node, of_linked, to_linked, host_line, command_line, signal_line, element_line, wait_line, no_set_line, host_edge}

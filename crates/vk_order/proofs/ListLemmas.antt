@@ -9,7 +9,7 @@ use Rattle.std.proofs.lemmas.List.Folds.{position_or_len_push}
 use Rattle.vk_model.specs.Sync.Node.{Node}
 use Rattle.vk_model.proofs.Lists.Truths.{no}
 use Rattle.vk_order.specs.declared.lines.Line.{Line}
-use Rattle.vk_order.specs.Inner.Clocks.{same_line, on_line, place}
+use Rattle.vk_order.specs.Lines.{same_line, on_line, place}
 use Rattle.vk_order.specs.Inner.Kept.{IsLonger, clock_at}
 use Rattle.vk_order.specs.Inner.Places.{index_in}
 use Rattle.vk_order.proofs.ClockLemmas.{line_itself}

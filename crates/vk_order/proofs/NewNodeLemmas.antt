@@ -18,9 +18,9 @@ use Rattle.vk_model.proofs.Sync.Paths.{before_of_path}
 use Rattle.vk_order.specs.declared.fronts.Front.{Front}
 use Rattle.vk_order.specs.declared.lines.Line.{Line}
 use Rattle.vk_order.specs.declared.new_node.NewNode.{NewNode}
-use Rattle.vk_order.specs.Lines.{line_of}
+use Rattle.vk_order.specs.Lines.{line_of, place}
 use Rattle.vk_order.specs.Wide.{is_wide, AreWide, is_answered}
-use Rattle.vk_order.specs.Inner.Clocks.{place, Clock}
+use Rattle.vk_order.specs.Inner.Clocks.{Clock}
 use Rattle.vk_order.specs.Inner.Kept.{clock_at}
 use Rattle.vk_order.specs.Inner.Fronts.{IsFront, clock_in, row_in}
 use Rattle.vk_order.specs.Frontiers.{IsNewNode}

@@ -15,8 +15,8 @@ use Rattle.vk_order.specs.declared.counts.Counts.{Counts}
 use Rattle.vk_order.specs.declared.fronts.Front.{Front}
 use Rattle.vk_order.specs.declared.tallies.LineTally.{LineTally}
 use Rattle.vk_order.specs.PointViews.{act_of}
-use Rattle.vk_order.specs.Lines.{class_of, class_on}
-use Rattle.vk_order.specs.Inner.Clocks.{same_line, on_line, place, IsClock}
+use Rattle.vk_order.specs.Lines.{class_of, class_on, same_line, on_line, place}
+use Rattle.vk_order.specs.Inner.Clocks.{IsClock}
 use Rattle.vk_order.specs.Inner.Counts.{zero_counts, counts_on, with_available, AreAvailable}
 use Rattle.vk_order.specs.Inner.Kept.{clock_at, IsOwn}
 use Rattle.vk_order.specs.Inner.Leads.{is_of_host, is_of_barriers}

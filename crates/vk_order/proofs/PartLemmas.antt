@@ -20,9 +20,9 @@ use Rattle.vk_order.specs.declared.lines.Line.{Line}
 use Rattle.vk_order.specs.declared.lines.Line.TheVariants.{Commands as OfCommands}
 use Rattle.vk_order.specs.declared.parts.Part.{Part}
 use Rattle.vk_order.specs.declared.parts.Parts.{Parts}
-use Rattle.vk_order.specs.Lines.{has_transfer, line_of, line_on, class_on}
+use Rattle.vk_order.specs.Lines.{has_transfer, line_of, line_on, class_on, same_line, place}
 use Rattle.vk_order.specs.Limited.{is_limited}
-use Rattle.vk_order.specs.Inner.Clocks.{same_line, place, Clock}
+use Rattle.vk_order.specs.Inner.Clocks.{Clock}
 use Rattle.vk_order.specs.Inner.Kept.{clock_at, IsKeptJoin, IsLonger}
 use Rattle.vk_order.specs.Inner.Leads.{is_of_barriers}
 use Rattle.vk_order.specs.Inner.Rows.{Available, makes_queue_available, IsKnown, IsRow, IsKnownRow, IsKeptRow, IsMerged}

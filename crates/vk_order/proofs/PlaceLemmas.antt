@@ -7,11 +7,10 @@ use Rattle.vk_model.specs.Sync.Node.{Node, Act, with_acts, same_place}
 use Rattle.vk_model.specs.Sync.Edge.{is_element}
 use Rattle.vk_order.specs.declared.lines.Line.{Line}
 use Rattle.vk_order.specs.Wide.{IsApartFrom}
-use Rattle.vk_order.specs.Inner.Clocks.{place}
+use Rattle.vk_order.specs.Lines.{place, line_of}
 pub use Rattle.vk_order.proofs.ClockLemmas.{place-older, place-grows, line_itself, line_same}
 use Rattle.vk_order.specs.declared.new_node.NewNode.{NewNode}
 use Rattle.vk_order.specs.Frontiers.{IsNewNode}
-use Rattle.vk_order.specs.Lines.{line_of}
 use Rattle.vk_model.specs.Sync.Before.{before, IsNumbered}
 use Rattle.vk_order.proofs.ByEdges.{by_last, by_edge}
 

@@ -7,8 +7,8 @@ use Rattle.vk_model.specs.Sync.Before.{IsNumbered}
 use Rattle.vk_model.proofs.Lists.Members.{contains-cons, contains-head, contains-tail}
 use Rattle.vk_model.proofs.Lists.Truths.{no}
 use Rattle.vk_order.specs.declared.lines.Line.{Line}
-use Rattle.vk_order.specs.Lines.{line_of}
-use Rattle.vk_order.specs.Inner.Clocks.{place, Clock, joined}
+use Rattle.vk_order.specs.Lines.{line_of, place}
+use Rattle.vk_order.specs.Inner.Clocks.{Clock, joined}
 use Rattle.vk_order.specs.Inner.Rows.{Knowledge, Knows, KnowsOne, IsRow, IsRowJoin, IsKeptRow}
 use Rattle.vk_order.proofs.ClockLemmas.{place-grows, place-more}
 use Rattle.vk_order.proofs.KeptLemmas.{none_of}

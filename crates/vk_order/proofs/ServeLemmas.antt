@@ -19,10 +19,9 @@ use Rattle.vk_model.proofs.Sync.Paths.{edge_forward, leads_on}
 use Rattle.vk_order.specs.declared.lines.Line.{Line}
 use Rattle.vk_order.specs.declared.new_node.NewNode.{NewNode}
 use Rattle.vk_order.specs.declared.parts.Part.{Part}
-use Rattle.vk_order.specs.Lines.{line_of, class_of}
+use Rattle.vk_order.specs.Lines.{line_of, class_of, same_line, place}
 use Rattle.vk_order.specs.Limited.{is_limited, IsMark, Reaches, IsWrite}
 use Rattle.vk_order.specs.Wide.{is_answered}
-use Rattle.vk_order.specs.Inner.Clocks.{same_line, place}
 use Rattle.vk_order.specs.Inner.Kept.{clock_at}
 use Rattle.vk_order.specs.Inner.Leads.{ends_in_transfer}
 use Rattle.vk_order.specs.Inner.Rows.{makes_all_available, makes_available, Visible, OnHost, KnowsOne}

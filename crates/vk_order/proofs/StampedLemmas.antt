@@ -11,9 +11,8 @@ use Rattle.vk_order.specs.declared.clocks.Stamp.{Stamp}
 use Rattle.vk_order.specs.declared.fronts.Front.{Front}
 use Rattle.vk_order.specs.declared.lines.Line.{Line}
 use Rattle.vk_order.specs.PointViews.{act_of, node_of, nodes_after}
-use Rattle.vk_order.specs.Lines.{class_of, class_on}
+use Rattle.vk_order.specs.Lines.{class_of, class_on, place}
 use Rattle.vk_order.specs.Inner.Places.{index_in}
-use Rattle.vk_order.specs.Inner.Clocks.{place}
 use Rattle.vk_order.specs.Inner.Kept.{clock_at, IsStamp, IsStamped, IsLonger}
 use Rattle.vk_order.specs.Inner.Fronts.{clock_in, IsFront}
 use Rattle.vk_order.proofs.RowLemmas.{nodes_after-append, length-nodes_after, numbered_after}

@@ -17,10 +17,10 @@ use Rattle.vk_order.specs.declared.fronts.Front.{Front}
 use Rattle.vk_order.specs.declared.tallies.LineTally.{LineTally}
 use Rattle.vk_order.specs.declared.names.Names.{Names}
 use Rattle.vk_order.specs.PointViews.{act_of, node_of}
-use Rattle.vk_order.specs.Lines.{line_of, class_of, class_on}
-use Rattle.vk_order.specs.Inner.Leads.{is_of_sets, line_leads}
+use Rattle.vk_order.specs.Lines.{line_of, class_of, class_on, is_of_sets, same_line, on_line, place}
+use Rattle.vk_order.specs.Inner.Leads.{line_leads}
 use Rattle.vk_order.specs.Inner.Links.{by_name}
-use Rattle.vk_order.specs.Inner.Clocks.{same_line, on_line, place, IsWhole}
+use Rattle.vk_order.specs.Inner.Clocks.{IsWhole}
 use Rattle.vk_order.specs.Inner.Kept.{clock_at}
 use Rattle.vk_order.specs.Inner.Places.{index_in}
 use Rattle.vk_order.specs.Inner.Fronts.{clock_in, row_in, IsFront, IsNamed}

@@ -28,7 +28,7 @@ use Rattle.vk_order.specs.Limited.{IsMark, IsWrite}
 use Rattle.vk_order.specs.SeenWrites.{SaysSeen, SaysSeenAt}
 use Rattle.vk_order.specs.Units.{unit_byte, units_resource, IsOfUnit}
 use Rattle.vk_order.specs.Wide.{access_of, is_answered}
-use Rattle.vk_order.specs.Inner.Clocks.{same_line}
+use Rattle.vk_order.specs.Lines.{same_line}
 use Rattle.vk_order.specs.Inner.Kept.{clock_at}
 use Rattle.vk_order.specs.Inner.Tallies.{lines_of}
 use Rattle.vk_order.specs.Inner.Parts.{IsPart, part_of, parts_at, AreFrom, AreInOrder, asked_of, opens, Serves}
@@ -138,7 +138,7 @@ says_alike f s write from access b c same kept parts is_kept are_from alike answ
 
 -- what a node that serves all memory shows is seen at each byte
 pub visible_each : (f : Frontier) (s : NewNode) (write : Spot) (from : ℕ) (access : Access) (b : Byte)
-    → ((ns : List Node) (n w : Node) (cached : Byte → Bool) → IsNewNode ns n s → IsWrite cached ns w b → Rattle.vk_order.specs.Lines.line_of w ≡ Some write.line → Rattle.vk_order.specs.Inner.Clocks.place ns write.line w.number ≡ write.place
+    → ((ns : List Node) (n w : Node) (cached : Byte → Bool) → IsNewNode ns n s → IsWrite cached ns w b → Rattle.vk_order.specs.Lines.line_of w ≡ Some write.line → Rattle.vk_order.specs.Lines.place ns write.line w.number ≡ write.place
     → IsTrue (is_answered cached n.act (access_of access) b) → KnowsOne (asked_of n.act (access_of access)) ns (λ q. edge ns q n) w)
     → SaysSeen f s write from access b true
 visible_each f s write from access b known = λ ns n w cached is new_node wrote on place le asked.

@@ -9,6 +9,7 @@ pub mod SeenWrites
 pub mod VisiblePrefix
 pub mod Cached
 pub mod Lines
+pub mod Edges
 pub mod Places
 pub mod Prefixes
 pub mod Submission

@@ -11,9 +11,8 @@ use Rattle.vk_order.specs.declared.parts.Spot.{Spot}
 use Rattle.vk_order.specs.declared.new_node.NewNode.{NewNode}
 use Rattle.vk_order.specs.Frontiers.{IsFrontier, IsNewNode}
 use Rattle.vk_order.specs.Limited.{IsWrite}
-use Rattle.vk_order.specs.Lines.{line_of}
+use Rattle.vk_order.specs.Lines.{line_of, place}
 use Rattle.vk_order.specs.Wide.{access_of, is_answered}
-use Rattle.vk_order.specs.Inner.Clocks.{place}
 use Rattle.vk_order.specs.Inner.Parts.{IsPart}
 use Rattle.vk_order.specs.Inner.Tallies.{lines_of}
 

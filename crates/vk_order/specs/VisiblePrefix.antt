@@ -2,7 +2,7 @@
 use Rattle.std.specs.Prelude.{Bool, ◌&&◌, nat_lt}
 use Rattle.vk_order.specs.declared.parts.Spot.{Spot}
 use Rattle.vk_order.specs.declared.visible_prefix.VisiblePrefix.{VisiblePrefix}
-use Rattle.vk_order.specs.Inner.Clocks.{same_line}
+use Rattle.vk_order.specs.Lines.{same_line}
 
 -- Whether the node of a spot is one of the first of a line.
 abbrev pub is_among : VisiblePrefix → Spot → Bool

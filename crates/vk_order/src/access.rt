@@ -44,7 +44,7 @@ impl Access {
 
 impl Act<'_> {
     /// Whether it makes the writes of all bytes by the commands before it on its queue available.
-    pub fn makes_queue_available(&self) -> bool
+    pub(crate) fn makes_queue_available(&self) -> bool
         ensures { result ≡ makes_queue_available (act_of self.now) }
     {
         match self {
@@ -56,7 +56,7 @@ impl Act<'_> {
     }
 
     /// Whether it makes available writes of all bytes visible to an access by commands after it.
-    pub fn makes_all_visible(&self, access: Access) -> bool
+    pub(crate) fn makes_all_visible(&self, access: Access) -> bool
         ensures { result ≡ makes_all_visible (access_of access) (act_of self.now) }
     {
         match self {
@@ -68,7 +68,7 @@ impl Act<'_> {
     }
 
     /// The same to an access by the host.
-    pub fn makes_all_visible_on_host(&self, access: Access) -> bool
+    pub(crate) fn makes_all_visible_on_host(&self, access: Access) -> bool
         ensures { result ≡ makes_all_visible_on_host (access_of access) (act_of self.now) }
     {
         match self {

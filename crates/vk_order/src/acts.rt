@@ -4,7 +4,7 @@ ghost use Rattle.vk_model.specs.World.Ownership.{dependency_of};
 ghost use Rattle.vk_model.specs.Sync.Edge as edge;
 ghost use Rattle.vk_model.specs.Sync.Edge.{by_host, by_stages, by_signal, by_all_commands, pairs};
 ghost use Rattle.vk_order.specs.PointViews.{act_of, node_of};
-ghost use Rattle.vk_order.specs.Inner.Links.{unsignaled};
+ghost use Rattle.vk_order.specs.Edges.{unsignaled};
 
 use crate::point::{Act, Point};
 use bitflags::Flags;

@@ -3,7 +3,7 @@ ghost use Rattle.vk_model.specs.Sync.Before.{before};
 ghost use Rattle.vk_order.specs.declared.acts.Row.{Row as AnyRow};
 ghost use Rattle.vk_order.specs.PointViews.{act_of, node_of, nodes_after};
 ghost use Rattle.vk_order.specs.Lines.{line_of};
-ghost use Rattle.vk_order.specs.Inner.Links.{unsignaled};
+ghost use Rattle.vk_order.specs.Edges.{unsignaled};
 ghost use Rattle.vk_order.specs.Inner.Kept.{IsStamped, IsSet};
 
 use crate::acts::Row;

@@ -1,8 +1,7 @@
 ghost use Rattle.std.specs.Prelude.{◌≡◌, IsTrue};
 ghost use Rattle.vk_order.specs.declared.lines.Line.TheVariants.{Commands as OfCommands};
 ghost use Rattle.vk_order.specs.PointViews.{act_of};
-ghost use Rattle.vk_order.specs.Lines.{class_on, element_class};
-ghost use Rattle.vk_order.specs.Inner.Clocks.{same_line};
+ghost use Rattle.vk_order.specs.Lines.{class_on, element_class, same_line, is_of_sets};
 ghost use Rattle.vk_order.specs.Inner.Leads as leads;
 ghost use Rattle.vk_order.specs.Inner.Places.{index_in};
 
@@ -88,7 +87,7 @@ impl Line {
 
     /// Whether the nodes of the line lead by an edge to a later act on a queue, other than by a
     /// semaphore, an event or as its submit; where they are no siblings of it.
-    pub fn leads(self, queue: u32, act: &Act<'_>) -> bool
+    pub(crate) fn leads(self, queue: u32, act: &Act<'_>) -> bool
         ensures { result ≡ leads.line_leads queue (act_of act.now) self }
     {
         match act {
@@ -128,7 +127,7 @@ impl Line {
     }
 
     /// Whether its nodes are entries of the host.
-    pub fn is_of_host(self) -> bool
+    pub(crate) fn is_of_host(self) -> bool
         ensures { result ≡ leads.is_of_host self }
     {
         matches!(self, Line::Host)
@@ -136,13 +135,13 @@ impl Line {
 
     /// Whether its nodes are elements of sets.
     pub fn is_of_sets(self) -> bool
-        ensures { result ≡ leads.is_of_sets self }
+        ensures { result ≡ is_of_sets self }
     {
         matches!(self, Line::Sets(_))
     }
 
     /// Whether its nodes are elements of barriers and awaits.
-    pub fn is_of_barriers(self) -> bool
+    pub(crate) fn is_of_barriers(self) -> bool
         ensures { result ≡ leads.is_of_barriers self }
     {
         matches!(self, Line::Elements(..))
@@ -175,7 +174,7 @@ impl Line {
     }
 
     /// Whether it has dependencies or waits that end in transfers.
-    pub fn ends_in_transfer(self, on: u32) -> bool
+    pub(crate) fn ends_in_transfer(self, on: u32) -> bool
         ensures { result ≡ leads.ends_in_transfer on self }
     {
         match self {

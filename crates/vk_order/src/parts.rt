@@ -10,9 +10,8 @@ ghost use Rattle.vk_order.specs.declared.lines.Line.{Line as AnyLine};
 ghost use Rattle.vk_order.specs.declared.lines.Line.TheVariants.{Commands as OfCommands};
 ghost use Rattle.vk_order.specs.PointViews.{act_of};
 ghost use Rattle.vk_order.specs.Bytes.{byte_of};
-ghost use Rattle.vk_order.specs.Lines.{line_of, has_transfer};
+ghost use Rattle.vk_order.specs.Lines.{line_of, has_transfer, same_line, place};
 ghost use Rattle.vk_order.specs.Wide.{access_of};
-ghost use Rattle.vk_order.specs.Inner.Clocks.{same_line, place};
 ghost use Rattle.vk_order.specs.Inner.Parts.{part_of, IsPart, parts_at, AreInOrder, AreFrom, AreBelow, AreParts, IsNewPart};
 
 use crate::access::Access;
@@ -112,7 +111,7 @@ impl Part {
 
 impl Act<'_> {
     /// Whether it is a dependency on a part of a resource.
-    pub fn is_limited(&self) -> bool
+    pub(crate) fn is_limited(&self) -> bool
         ensures { result ≡ false → part_of (act_of self.now) ≡ None }
     {
         match self {
@@ -122,7 +121,7 @@ impl Act<'_> {
     }
 
     /// The resource on a part of which it is a dependency, and the element that says so.
-    pub fn limited(&self) -> Option<(u32, Element)>
+    pub(crate) fn limited(&self) -> Option<(u32, Element)>
         ensures resource { option_map (λ p. p.0) result ≡ part_of (act_of self.now) }
         ensures element { IfSome result (λ p. act_of self.now ≡ Depends Barrier p.1) }
     {

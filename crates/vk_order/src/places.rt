@@ -1,6 +1,6 @@
 ghost use Rattle.std.specs.Prelude.{◌≡◌};
 ghost use Rattle.vk_order.specs.declared.lines.Line.TheVariants.{Commands as OfCommands, Elements as OfElements};
-ghost use Rattle.vk_order.specs.Inner.Clocks.{same_line};
+ghost use Rattle.vk_order.specs.Lines.{same_line};
 
 use crate::lines::Line;
 

@@ -8,7 +8,7 @@ ghost use Rattle.vk_order.specs.PointViews.{action_of, act_of, point_of, node_of
 ghost use Rattle.vk_order.specs.Bytes.{byte_of};
 ghost use Rattle.vk_order.specs.Wide.{access_of};
 ghost use Rattle.vk_order.specs.declared.acts.Row.{Row as AnyRow};
-ghost use Rattle.vk_order.specs.Inner.Links.{unsignaled};
+ghost use Rattle.vk_order.specs.Edges.{unsignaled};
 ghost use Rattle.vk_order.specs.Inner.Reaches.{Reaches};
 ghost use Rattle.vk_order.specs.Queries.{led_to, IsNew};
 ghost use Rattle.vk_order.specs.declared.point.Action.TheVariants.{Host};

@@ -7,10 +7,9 @@ ghost use Rattle.vk_model.specs.Sync.Seen.{Access as AnyAccess, seen, makes_writ
 ghost use Rattle.vk_order.specs.declared.parts.Part.{Part as AnyPart};
 ghost use Rattle.vk_order.specs.PointViews.{act_of, point_of};
 ghost use Rattle.vk_order.specs.Bytes.{byte_of};
-ghost use Rattle.vk_order.specs.Lines.{line_of};
+ghost use Rattle.vk_order.specs.Lines.{line_of, place};
 ghost use Rattle.vk_order.specs.Limited.{is_limited, Reaches, IsWrite};
 ghost use Rattle.vk_order.specs.Inner.Alone.{AlwaysMarks, NeverMarks};
-ghost use Rattle.vk_order.specs.Inner.Clocks.{place};
 ghost use Rattle.vk_order.specs.Inner.Parts.{parts_at, AreInOrder, AreFrom, IsPart, IsOwnPart};
 ghost use Rattle.vk_order.specs.Inner.Tallies.{lines_of};
 ghost use Rattle.vk_order.specs.Frontiers.{IsFrontier, IsNewNode, IsFrom};

@@ -7,12 +7,11 @@ ghost use Rattle.vk_model.specs.Sync.Seen.{covers, makes_writes_available};
 ghost use Rattle.vk_order.specs.declared.parts.Part.{Part as AnyPart};
 ghost use Rattle.vk_order.specs.Bytes.{byte_of};
 ghost use Rattle.vk_order.specs.Limited.{Reaches};
-ghost use Rattle.vk_order.specs.Lines.{line_of};
+ghost use Rattle.vk_order.specs.Lines.{line_of, place};
 ghost use Rattle.vk_order.specs.SeenWrites.{SaysSeen};
 ghost use Rattle.vk_order.specs.Units.{HaveNumbers, unit_byte, units_resource};
 ghost use Rattle.vk_order.specs.Wide.{access_of};
 ghost use Rattle.vk_order.specs.Inner.Alone.{AlwaysShows};
-ghost use Rattle.vk_order.specs.Inner.Clocks.{place};
 ghost use Rattle.vk_order.specs.Inner.Parts.{parts_at, AreInOrder, AreFrom, IsPart};
 ghost use Rattle.vk_order.specs.Inner.Tallies.{lines_of};
 

@@ -3,7 +3,7 @@ ghost use Rattle.vk_model.specs.World.Bytes as world;
 ghost use Rattle.vk_order.specs.declared.parts.Spot.{Spot as AnySpot};
 ghost use Rattle.vk_order.specs.SeenWrites.{SaysSeen};
 ghost use Rattle.vk_order.specs.VisiblePrefix.{is_among};
-ghost use Rattle.vk_order.specs.Inner.Clocks.{same_line};
+ghost use Rattle.vk_order.specs.Lines.{same_line};
 
 use crate::access::Access;
 use crate::frontier::Frontier;

@@ -4,10 +4,9 @@ ghost use Rattle.vk_order.specs.declared.acts.Row.{Row as AnyRow};
 ghost use Rattle.vk_order.specs.declared.writes.First.{First as AnyFirst};
 ghost use Rattle.vk_order.specs.PointViews.{act_of, node_of, nodes_after};
 ghost use Rattle.vk_order.specs.Bytes.{byte_of};
-ghost use Rattle.vk_order.specs.Lines.{line_of};
-ghost use Rattle.vk_order.specs.Inner.Clocks.{same_line};
-ghost use Rattle.vk_order.specs.Inner.Links.{unsignaled};
-ghost use Rattle.vk_order.specs.Inner.Availability.{makes_available, makes_visible, makes_write_available, is_carried, is_marked, is_set_element, comes_after_sets, HasSets, AreFirsts};
+ghost use Rattle.vk_order.specs.Lines.{line_of, same_line};
+ghost use Rattle.vk_order.specs.Edges.{unsignaled, makes_available, makes_visible};
+ghost use Rattle.vk_order.specs.Inner.Availability.{makes_write_available, is_carried, is_marked, is_set_element, comes_after_sets, HasSets, AreFirsts};
 
 use crate::access::Access;
 use crate::acts::Row;

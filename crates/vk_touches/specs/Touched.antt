@@ -14,8 +14,7 @@ use Rattle.vk_model.specs.Sync.Seen.{Read, seen, flushes, invalidates}
 use Rattle.vk_model.specs.Sync.Access.{is_in, targets, origins, host_reads, host_writes, transition_bytes}
 use Rattle.vk_order.specs.Barriers.{element_node}
 use Rattle.vk_order.specs.Cached.{uncached}
-use Rattle.vk_order.specs.Lines.{class_of}
-use Rattle.vk_order.specs.Inner.Clocks.{place}
+use Rattle.vk_order.specs.Lines.{class_of, place}
 use Rattle.vk_order.specs.declared.lines.Line.{Line}
 use Rattle.vk_order.specs.declared.lines.Line.TheVariants.{Host as OfHost, Commands as OfCommands, Signals as OfSignals}
 use Rattle.vk_touches.specs.declared.touches.Spot.{Spot}

@@ -15,8 +15,7 @@ use Rattle.vk_model.specs.Sync.Access.{is_in, image_bytes}
 use Rattle.vk_model.specs.Sync.Node.{Node, Depends, Barrier, nodes, acts, with_acts}
 use Rattle.vk_model.specs.Sync.Seen.{invalidates, flushes}
 use Rattle.vk_order.specs.Barriers.{element_node}
-use Rattle.vk_order.specs.Inner.Clocks.{place}
-use Rattle.vk_order.specs.Lines.{class_of}
+use Rattle.vk_order.specs.Lines.{place, class_of}
 use Rattle.vk_order.proofs.PlaceLemmas.{place_stays}
 use Rattle.vk_touches.specs.declared.touches.LastTouches.{LastTouches}
 use Rattle.vk_touches.specs.declared.touches.Spot.{Spot}
@@ -27,7 +26,7 @@ use Rattle.vk_touches.specs.Touched.{touches, touched, last_spot, last_place, is
 use Rattle.vk_touches.proofs.Touching.Flushing.{flush_step, invalidated_step}
 use Rattle.vk_touches.proofs.Touching.LastTransitions.{transition_step}
 use Rattle.vk_touches.proofs.Touching.Spots.{last_step}
-use Rattle.vk_history.specs.Passing.{spot_after, touched_by, touched_by_all}
+use Rattle.vk_history.specs.Inner.Passing.{spot_after, touched_by, touched_by_all}
 
 module _ (past : Past) (p : Point) (b : Byte) where
   -- the last transition among elements that come after some nodes

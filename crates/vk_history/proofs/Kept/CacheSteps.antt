@@ -17,10 +17,9 @@ use Rattle.vk_model.specs.Sync.Seen as seen
 use Rattle.vk_model.proofs.Lists.Members.{contains-head}
 use Rattle.vk_order.specs.Cached.{uncached}
 use Rattle.vk_order.specs.Frontiers.{IsFrontier, IsNewNode}
-use Rattle.vk_order.specs.Lines.{class_of, class_on, line_on}
+use Rattle.vk_order.specs.Lines.{class_of, class_on, line_on, place}
 use Rattle.vk_order.specs.SeenWrites as order
 use Rattle.vk_order.specs.Wide.{is_answered}
-use Rattle.vk_order.specs.Inner.Clocks.{place}
 use Rattle.vk_order.specs.declared.access.Access.{Access}
 use Rattle.vk_order.specs.declared.access.Access.TheVariants as access
 use Rattle.vk_touches.specs.declared.accesses.ResourceAccess.{ResourceAccess}

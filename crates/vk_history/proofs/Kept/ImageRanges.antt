@@ -23,7 +23,7 @@ use Rattle.vk_touches.specs.Remembered.{with_transition}
 use Rattle.vk_touches.specs.TouchedRanges.{touching, transitioning, is_between}
 use Rattle.vk_touches.proofs.RegionTouches.{touching_more}
 use Rattle.vk_history.specs.declared.resource_contents.ResourceContents.{ResourceContents}
-use Rattle.vk_history.specs.Passing.{IsMarked}
+use Rattle.vk_history.specs.Inner.Passing.{IsMarked}
 use Rattle.vk_history.specs.Contents.{IsTaken, IsCleared, IsDefined, as_before, assigns, defines, left_of}
 
 -- ---- ranges of numbers

@@ -36,7 +36,7 @@ use Rattle.vk_touches.specs.Touched.{next_spot}
 use Rattle.vk_history.specs.declared.contents.Contents.{Contents}
 use Rattle.vk_history.specs.declared.resource_contents.ResourceContents.{ResourceContents}
 use Rattle.vk_history.specs.Contents.{AreContents, AreContentsIn, AreContentsAt, BecomesIn, IsClearedBy, IsWritten, IsDiscarded, IsTaken, has_value, holder_of, byte_at, size_at, as_before, assigns}
-use Rattle.vk_history.specs.Passing.{IsTransitioned, IsUsedByTransition, IsHandedOver, IsMarked, IsImagePassed, is_good_image, touched_by}
+use Rattle.vk_history.specs.Inner.Passing.{IsTransitioned, IsUsedByTransition, IsHandedOver, IsMarked, IsImagePassed, is_good_image, touched_by}
 use Rattle.vk_history.proofs.Making.Numbers.{byte_of_image, size_of_image, image_is_resource}
 use Rattle.vk_history.proofs.Kept.NextPoint.{image_for_command, fault_rest}
 use Rattle.vk_history.proofs.Kept.ImageRules.{image_good}

@@ -29,7 +29,7 @@ use Rattle.vk_model.specs.declared.resource.ImageInfo.{ImageInfo}
 use Rattle.vk_model.specs.Basics.{holds}
 use Rattle.vk_model.specs.Rules.Sizes.{bad_image}
 use Rattle.vk_model.specs.Sync.Node.{nodes}
-use Rattle.vk_history.specs.Passing.{AreOnResources, is_on_resource, is_good_image, IsPassed, IsImagePassed, touched_by, touched_by_all}
+use Rattle.vk_history.specs.Inner.Passing.{AreOnResources, is_on_resource, is_good_image, IsPassed, IsImagePassed, touched_by, touched_by_all}
 use Rattle.vk_model.specs.Rules.Table.{fault}
 use Rattle.vk_touches.specs.Touched.{touched}
 use Rattle.vk_history.specs.Contents.{AreContents, AreContentsInAt, AreAllAt, BecomesIn, AreContentsAt, holder_of, has_value, byte_at, IsTaken, left_of, as_before}

@@ -17,7 +17,7 @@ use Rattle.vk_touches.specs.declared.touches.Spot.{Spot}
 use Rattle.vk_history.specs.declared.contents.Contents.{Contents}
 use Rattle.vk_history.specs.declared.element_spots.ElementSpots.{ElementSpots}
 use Rattle.vk_history.specs.Contents.{AreAllAt}
-use Rattle.vk_history.specs.Passing.{AreOnResources, AreSpots, is_on_resource, spot_after, touched_by, touched_by_all}
+use Rattle.vk_history.specs.Inner.Passing.{AreOnResources, AreSpots, is_on_resource, spot_after, touched_by, touched_by_all}
 
 -- some have come, and these are left: what is left leads to where all would
 pub record AreLeft (past : Past) (w : World) (t : Byte → LastTouches) (p : Point) (now : Contents) (spots : ElementSpots) (q : ℕ) (left all : List Element) : Type 0 where

@@ -26,8 +26,7 @@ use Rattle.vk_order.specs.declared.new_node.NewNode.{NewNode}
 use Rattle.vk_order.specs.declared.frontier.Frontier.{Frontier}
 use Rattle.vk_order.specs.Frontiers.{IsNewNode, IsFrontier}
 use Rattle.vk_order.specs.declared.lines.Line.TheVariants.{Commands as OfCommands, Elements as OfElements}
-use Rattle.vk_order.specs.Lines.{line_of, line_on, class_on, has_transfer, has_host}
-use Rattle.vk_order.specs.Inner.Clocks.{place, on_line, same_bit}
+use Rattle.vk_order.specs.Lines.{line_of, line_on, class_on, has_transfer, has_host, place, on_line, same_bit}
 use Rattle.vk_order.proofs.PlaceLemmas.{place-older, place-grows, first_on_line}
 use Rattle.vk_history.specs.declared.last_uses.LastUse.{LastUse}
 use Rattle.vk_history.specs.declared.last_uses.ElementCounts.{ElementCounts}

@@ -7,8 +7,7 @@ use Rattle.vk_model.specs.Sync.Edge.{is_host, is_submit}
 use Rattle.vk_model.specs.Sync.Before.{before}
 use Rattle.vk_model.specs.Sync.Seen.{passes, flushes}
 use Rattle.vk_order.specs.Bytes.{byte_of}
-use Rattle.vk_order.specs.Lines.{line_of, class_of, IsPlaced}
-use Rattle.vk_order.specs.Inner.Leads.{is_of_sets}
+use Rattle.vk_order.specs.Lines.{line_of, class_of, IsPlaced, is_of_sets}
 use Rattle.vk_order.specs.declared.lines.Line.{Line}
 use Rattle.vk_facts.specs.Hazards.{node_at}
 use Rattle.vk_links.specs.Links.{cached, makes_available}

@@ -4,7 +4,7 @@ use Rattle.vk_model.specs.declared.command.Cmd.{Cmd}
 use Rattle.vk_model.specs.Trace.Point.{Past, Point, Action, Run}
 use Rattle.vk_model.specs.Run.Runs.{Name}
 use Rattle.vk_offers.specs.declared.offers.Offers.{Offers}
-use Rattle.vk_offers.specs.IsOffers.{IsOffers, ComesNext, is_run}
+use Rattle.vk_offers.specs.IsOffers.{IsOffers, ComesNext, is_run, is_run_in_pieces}
 
 -- A command may be started, run in so many pieces.
 pub record MayStart (o : Offers) (past : Past) (done : List Name) (p : Point) (c : Cmd) (count : ℕ) : Type 0 where
@@ -19,11 +19,6 @@ StartReady o p c count = (past : Past) × (done : List Name) × MayStart o past 
 -- It was started.
 abbrev pub Starts : Offers → Offers → Point → Cmd → ℕ → Type 0
 Starts old new p c count = (past : Past) (done : List Name) → MayStart old past done p c count → IsOffers new (p ∷ past) done
-
--- Whether an action is a command that is run in pieces.
-abbrev pub is_run_in_pieces : Action → Bool
-is_run_in_pieces (Run c) = is_run c
-is_run_in_pieces _ = false
 
 -- A point that isn't has come.
 abbrev pub Passes : Offers → Offers → Point → Type 0

@@ -14,22 +14,7 @@ use Rattle.vk_order.specs.PointViews.{act_of, node_of, nodes_after}
 use Rattle.vk_order.specs.Bytes.{byte_of}
 use Rattle.vk_order.specs.Wide.{access_of}
 use Rattle.vk_order.specs.Lines.{line_of}
-use Rattle.vk_order.specs.Inner.Links.{unsignaled}
-
--- Whether a node makes commands' writes of a byte available (Vulkan, "Execution and Memory Dependencies" and "Semaphore Signaling").
-abbrev pub makes_available : Byte → Node → Bool
-makes_available b p = makes_writes_available (λ c. false) [] p b p.act
-
--- Whether an element makes available writes of a byte visible to accesses under a mask (Vulkan, "Execution and Memory Dependencies").
-abbrev pub makes_visible : ℕ → Byte → Node → Bool
-makes_visible mask b q = makes_writes_visible (λ c. false) [] mask b q q.act
-
--- Whether node p makes a write of a byte by node w, whose act is given, available: a host's are the submits after node `from`.
-abbrev pub made_available_by : Node → Act → ℕ → Byte → Node → Bool
-made_available_by w (Runs c) from b p = nat_lt w.number p.number && unsignaled w p && makes_available b p
-made_available_by w (Depends r e) from b p = same_node w p
-made_available_by w (Hosts x) from b p = is_submit p.act && nat_lt from p.number
-made_available_by w _ from b p = false
+use Rattle.vk_order.specs.Edges.{unsignaled, makes_visible, made_available_by}
 
 -- Whether a node makes a write available.
 abbrev pub makes_write_available : Write → Node → Bool

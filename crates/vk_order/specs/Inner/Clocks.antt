@@ -5,32 +5,8 @@ use Rattle.vk_model.specs.Sync.Node.{Node}
 use Rattle.vk_model.specs.Sync.Before.{before}
 use Rattle.vk_order.specs.declared.lines.Line.{Line}
 use Rattle.vk_order.specs.declared.lines.Line.TheVariants.{Host as OfHost, Commands as OfCommands, Signals as OfSignals, Elements as OfElements, Sets as OfSets, Waits as OfWaits}
-use Rattle.vk_order.specs.Lines.{line_of}
+use Rattle.vk_order.specs.Lines.{line_of, on_line, place}
 use Rattle.vk_order.specs.Prefixes.{Leads}
-
--- Whether two truth values are the same.
-abbrev pub same_bit : Bool → Bool → Bool
-same_bit true b = b
-same_bit false b = not b
-
--- Whether two lines are the same one.
-abbrev pub same_line : Line → Line → Bool
-same_line OfHost OfHost = true
-same_line (OfCommands q) (OfCommands r) = q == r
-same_line (OfSignals q) (OfSignals r) = q == r
-same_line (OfSets q) (OfSets r) = q == r
-same_line (OfElements q t h) (OfElements r u i) = q == r && same_bit t u && same_bit h i
-same_line (OfWaits q t h a) (OfWaits r u i b) = q == r && same_bit t u && same_bit h i && same_bit a b
-same_line _ _ = false
-
--- Whether a node is of a line.
-abbrev pub on_line : Line → Node → Bool
-on_line l n = holds (line_of n) (same_line l)
-
--- How many nodes of a line have a number below k: the place of node k in it.
-abbrev pub place : List Node → Line → ℕ → ℕ
-place [] l k = 0
-place (n ∷ ns) l k = if nat_lt n.number k && on_line l n then place ns l k + 1 else place ns l k
 
 -- For each line a count of its nodes.
 abbrev pub Clock : Type 0

@@ -7,9 +7,9 @@ use Rattle.vk_order.specs.declared.acts.Row.{Row}
 use Rattle.vk_order.specs.declared.clocks.Stamp.{Stamp}
 use Rattle.vk_order.specs.declared.lines.Line.{Line}
 use Rattle.vk_order.specs.PointViews.{node_of, nodes_after}
-use Rattle.vk_order.specs.Lines.{line_of, class_of}
+use Rattle.vk_order.specs.Lines.{line_of, class_of, place}
 use Rattle.vk_order.specs.Inner.Places.{index_in}
-use Rattle.vk_order.specs.Inner.Clocks.{place, Clock, IsClock, IsJoin, itself}
+use Rattle.vk_order.specs.Inner.Clocks.{Clock, IsClock, IsJoin, itself}
 
 -- The count that a kept clock has for a line.
 abbrev pub clock_at : List Line → List ℕ → Clock

@@ -18,11 +18,6 @@ is_of_elements q (OfElements r t h) = r == q
 is_of_elements q (OfSets r) = r == q
 is_of_elements q _ = false
 
--- Whether it is of elements of sets.
-abbrev pub is_of_sets : Line → Bool
-is_of_sets (OfSets r) = true
-is_of_sets _ = false
-
 -- Whether it is of elements of barriers and awaits.
 abbrev pub is_of_barriers : Line → Bool
 is_of_barriers (OfElements r t h) = true

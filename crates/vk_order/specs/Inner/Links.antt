@@ -4,10 +4,6 @@ use Rattle.vk_model.specs.Sync.Node.{Node}
 use Rattle.vk_model.specs.Sync.Edge.{by_host, by_stages, by_signal, by_all_commands, pairs, by_semaphore}
 use Rattle.vk_order.specs.Prefixes.{submits}
 
--- Whether one node leads to a later one by an edge of any kind but by a semaphore (Vulkan, "Execution and Memory Dependencies").
-abbrev pub unsignaled : Node → Node → Bool
-unsignaled m n = by_host m n || by_stages m n || by_signal m n || by_all_commands m n || pairs m.act n.act
-
 -- Whether one node leads to another by a name: it is its submit, the set's element of an await's, or signals what is waited for (Vulkan, "Queue Submission", "Events" and "Semaphore Waiting").
 abbrev pub by_name : List Node → Node → Node → Bool
 by_name ns m n = submits n.point.entry m || (pairs m.act n.act || by_semaphore ns m n)

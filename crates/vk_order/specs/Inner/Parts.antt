@@ -13,9 +13,8 @@ use Rattle.vk_order.specs.declared.lines.Line.{Line}
 use Rattle.vk_order.specs.declared.lines.Line.TheVariants.{Commands as OfCommands}
 use Rattle.vk_order.specs.declared.parts.Part.{Part}
 use Rattle.vk_order.specs.declared.parts.Parts.{Parts}
-use Rattle.vk_order.specs.Lines.{line_of}
+use Rattle.vk_order.specs.Lines.{line_of, place}
 use Rattle.vk_order.specs.Limited.{is_limited, Reaches}
-use Rattle.vk_order.specs.Inner.Clocks.{place}
 use Rattle.vk_order.specs.Inner.Kept.{clock_at}
 use Rattle.vk_order.specs.Inner.Rows.{Knowledge, Available, Visible, OnHost, IsKnownRow, KnowsOne}
 

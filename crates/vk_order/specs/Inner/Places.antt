@@ -1,7 +1,7 @@
 -- Lines among others.
 use Rattle.std.specs.Prelude.{ℕ, List, position, Option}
 use Rattle.vk_order.specs.declared.lines.Line.{Line}
-use Rattle.vk_order.specs.Inner.Clocks.{same_line}
+use Rattle.vk_order.specs.Lines.{same_line}
 
 -- Where a line is among others.
 abbrev pub index_in : List Line → Line → Option ℕ

@@ -7,9 +7,9 @@ use Rattle.vk_model.specs.Sync.Edge.{edge, is_host, is_submit, is_element}
 use Rattle.vk_model.specs.Sync.Before.{before}
 use Rattle.vk_model.specs.Sync.Seen.{Access, Write, command_mask, host_mask, is_await, is_set, to_host}
 use Rattle.vk_order.specs.declared.lines.Line.TheVariants.{Host as OfHost, Commands as OfCommands}
-use Rattle.vk_order.specs.Lines.{line_of}
+use Rattle.vk_order.specs.Lines.{line_of, place}
 use Rattle.vk_order.specs.Prefixes.{from_transfer}
-use Rattle.vk_order.specs.Inner.Clocks.{place, Clock}
+use Rattle.vk_order.specs.Inner.Clocks.{Clock}
 use Rattle.vk_order.specs.Inner.Kept.{clock_at}
 use Rattle.vk_order.specs.Inner.Leads.{is_of_host, is_of_barriers}
 use Rattle.vk_order.specs.declared.lines.Line.{Line}

@@ -11,11 +11,10 @@ use Rattle.vk_model.specs.Sync.Node.{Node, Act, nodes}
 use Rattle.vk_model.specs.Sync.Edge.{is_host, is_element}
 use Rattle.vk_model.specs.Sync.Before.{before, IsNumbered}
 use Rattle.vk_model.specs.Sync.Seen.{Access, seen}
-use Rattle.vk_order.specs.Lines.{line_of, line_on, class_of, class_on}
+use Rattle.vk_order.specs.Lines.{line_of, line_on, class_of, class_on, place}
 use Rattle.vk_order.specs.Wide.{is_wide}
 use Rattle.vk_order.specs.Limited.{IsWrite}
 use Rattle.vk_order.specs.Frontiers.{IsFrontier, IsNewNode}
-use Rattle.vk_order.specs.Inner.Clocks.{place}
 use Rattle.vk_order.specs.Inner.Parts.{IsPart}
 use Rattle.vk_order.specs.Inner.Tallies.{lines_of}
 use Rattle.vk_order.specs.declared.lines.Line.{Line}

@@ -23,11 +23,10 @@ use Rattle.vk_model.proofs.Lists.Truths.{clash}
 use Rattle.vk_model.proofs.Sync.Growth.{growth}
 use Rattle.vk_model.proofs.Sync.Numbers.{numbered, number_below}
 use Rattle.vk_laws.proofs.Nodes.Points.{in_acts}
-use Rattle.vk_order.specs.Lines.{line_of, line_on, class_of, class_on}
+use Rattle.vk_order.specs.Lines.{line_of, line_on, class_of, class_on, place}
 use Rattle.vk_order.specs.Wide.{is_wide, is_answered, access_of}
 use Rattle.vk_order.specs.Limited.{IsWrite}
 use Rattle.vk_order.specs.Frontiers.{IsFrontier, IsNewNode}
-use Rattle.vk_order.specs.Inner.Clocks.{place}
 use Rattle.vk_order.specs.Cached.{uncached, IsFirstFlush, FlushedSeen, UnflushedSeen, InvalidatedSeen, UninvalidatedSeen}
 use Rattle.vk_order.specs.declared.lines.Line.{Line}
 use Rattle.vk_order.specs.declared.lines.Line.TheVariants.{Host as OfHost, Commands as OfCommands}

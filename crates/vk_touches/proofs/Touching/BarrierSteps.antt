@@ -9,8 +9,7 @@ use Rattle.vk_model.specs.World.Bytes.{Byte}
 use Rattle.vk_model.specs.Trace.Point.{Past, Point, Action, Run}
 use Rattle.vk_model.specs.Sync.Node.{Node, Act, Depends, Barrier, nodes, acts, with_acts}
 use Rattle.vk_order.specs.Barriers.{element_node, with_barrier}
-use Rattle.vk_order.specs.Inner.Clocks.{place}
-use Rattle.vk_order.specs.Lines.{class_on}
+use Rattle.vk_order.specs.Lines.{place, class_on}
 use Rattle.vk_order.specs.declared.lines.Line.{Line}
 use Rattle.vk_order.proofs.PlaceLemmas as places
 use Rattle.vk_touches.specs.declared.touches.LastTouches.{LastTouches}

@@ -19,9 +19,8 @@ use Rattle.vk_laws.proofs.Nodes.Actions.{host_action}
 use Rattle.vk_laws.proofs.Nodes.Points.{at_point}
 use Rattle.vk_laws.proofs.Nodes.Prefixes.{has_more}
 use Rattle.vk_order.specs.Cached.{uncached}
-use Rattle.vk_order.specs.Inner.Clocks.{place}
+use Rattle.vk_order.specs.Lines.{place, class_on}
 use Rattle.vk_order.specs.declared.lines.Line.{Line}
-use Rattle.vk_order.specs.Lines.{class_on}
 use Rattle.vk_touches.specs.declared.touches.Spot.{Spot}
 use Rattle.vk_touches.specs.declared.touches.Touch.TheVariants as touch
 use Rattle.vk_touches.specs.Touched.{next_node, next_spot, act_next, class_next, line_next, only_if, touches, touch_next, last_touch, flush_next, invalidation_next, first_flush, last_invalidation, is_invalidated, flush_spot, spot_of}

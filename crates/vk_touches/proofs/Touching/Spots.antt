@@ -7,8 +7,7 @@ use Rattle.vk_model.specs.Trace.Point.{Past, Point, Action}
 use Rattle.vk_model.specs.Sync.Node.{Node, Act, nodes, acts}
 use Rattle.vk_model.proofs.Sync.Numbers.{numbered, number_below}
 use Rattle.vk_laws.proofs.Nodes.Counts.{more_nodes}
-use Rattle.vk_order.specs.Lines.{class_of, class_on}
-use Rattle.vk_order.specs.Inner.Clocks.{place}
+use Rattle.vk_order.specs.Lines.{class_of, class_on, place}
 use Rattle.vk_order.specs.declared.lines.Line.{Line}
 use Rattle.vk_order.proofs.PlaceLemmas as places
 use Rattle.vk_touches.specs.declared.touches.Spot.{Spot}

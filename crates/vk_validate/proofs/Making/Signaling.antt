@@ -12,8 +12,7 @@ use Rattle.vk_model.specs.Rules.Synchronization.{breaks_signal_order}
 use Rattle.vk_model.specs.Rules.Table.{fault}
 use Rattle.vk_model.proofs.Lists.Members.{only_one}
 use Rattle.vk_laws.proofs.Nodes.Actions.{runs_or_idle}
-use Rattle.vk_order.specs.Lines.{line_of, class_of}
-use Rattle.vk_order.specs.Inner.Clocks.{place}
+use Rattle.vk_order.specs.Lines.{line_of, class_of, place}
 use Rattle.vk_order.specs.declared.lines.Line.{Line}
 use Rattle.vk_touches.specs.Touched.{next_node, act_next, last_signaler, signal_spot}
 use Rattle.vk_touches.proofs.Touching.LastHazards.{nodes_with}

@@ -3,8 +3,7 @@ use Rattle.std.specs.Prelude.{Contains}
 use Rattle.vk_model.specs.Sync.Node.{Node}
 use Rattle.vk_model.specs.Sync.Before.{before}
 use Rattle.vk_order.specs.Frontiers.{IsNewNode}
-use Rattle.vk_order.specs.Lines.{line_of}
-use Rattle.vk_order.specs.Inner.Clocks.{place}
+use Rattle.vk_order.specs.Lines.{line_of, place}
 use Rattle.vk_history.specs.declared.last_uses.LastUse.{LastUse}
 use Rattle.vk_history.proofs.last_uses.is_some_left.Given as goal
 

@@ -10,8 +10,7 @@ use Rattle.vk_order.specs.declared.clocks.Stamp.{Stamp}
 use Rattle.vk_order.specs.declared.fronts.Front.{Front}
 use Rattle.vk_order.specs.declared.lines.Line.{Line}
 use Rattle.vk_order.specs.PointViews.{act_of, node_of, nodes_after}
-use Rattle.vk_order.specs.Lines.{class_on}
-use Rattle.vk_order.specs.Inner.Clocks.{place}
+use Rattle.vk_order.specs.Lines.{class_on, place}
 use Rattle.vk_order.specs.Inner.Places.{index_in}
 use Rattle.vk_order.specs.Inner.Kept.{IsStamped}
 use Rattle.vk_order.specs.Inner.Fronts.{clock_in, IsFront}

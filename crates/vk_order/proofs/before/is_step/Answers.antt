@@ -4,7 +4,7 @@ use Rattle.std.proofs.lemmas.Option.{get_or_from_slice_get}
 use Rattle.vk_order.specs.declared.acts.Row.{Row}
 use Rattle.vk_order.specs.PointViews.{act_of, node_of}
 use Rattle.vk_order.specs.Lines.{line_of, class_on}
-use Rattle.vk_order.specs.Inner.Links.{unsignaled}
+use Rattle.vk_order.specs.Edges.{unsignaled}
 use Rattle.vk_order.proofs.SetLemmas.{set_to_line}
 use Rattle.vk_order.proofs.before.is_step.Goals as goal
 

@@ -4,7 +4,7 @@ use Rattle.vk_model.specs.Basics.{holds}
 use Rattle.vk_order.specs.declared.lines.Line.{Line}
 use Rattle.vk_order.specs.declared.tallies.LineTally.{LineTally}
 use Rattle.vk_order.specs.PointViews.{act_of}
-use Rattle.vk_order.specs.Inner.Clocks.{same_line}
+use Rattle.vk_order.specs.Lines.{same_line}
 use Rattle.vk_order.proofs.OwnLemmas.{index_low, available_counted, available_none, available_as_well}
 use Rattle.vk_order.proofs.owning.count_available.Goals as goal
 

@@ -1,6 +1,6 @@
 use Rattle.std.proofs.Common.{◌≡◌, ◌+◌, ℕ, refl, ap, sym, ◌∙◌, arith, rules}
 use Rattle.std.specs.Prelude.{◌==◌, if◌then◌else◌, slice_index_or}
-use Rattle.vk_order.specs.Inner.Clocks.{place}
+use Rattle.vk_order.specs.Lines.{place}
 use Rattle.vk_order.specs.Inner.Counts.{zero_counts, with_clock}
 use Rattle.vk_order.proofs.KeptLemmas.{its_line, no_line_of}
 use Rattle.vk_order.proofs.OwnCounts.{counted_none, counted_line}

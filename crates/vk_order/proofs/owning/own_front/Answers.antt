@@ -6,8 +6,7 @@ use Rattle.vk_order.specs.declared.fronts.Front.{Front}
 use Rattle.vk_order.specs.declared.lines.Line.{Line}
 use Rattle.vk_order.specs.declared.tallies.LineTally.{LineTally}
 use Rattle.vk_order.specs.PointViews.{act_of}
-use Rattle.vk_order.specs.Lines.{class_of, class_on}
-use Rattle.vk_order.specs.Inner.Clocks.{place}
+use Rattle.vk_order.specs.Lines.{class_of, class_on, place}
 use Rattle.vk_order.specs.Inner.Counts.{shows_of, AreAvailable, AreVisible}
 use Rattle.vk_order.specs.Inner.Places.{index_in}
 use Rattle.vk_order.specs.Inner.Tallies.{lines_of}

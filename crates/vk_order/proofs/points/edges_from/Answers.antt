@@ -1,7 +1,7 @@
 use Rattle.std.proofs.Common.{◌≡◌, ◌+◌, ◌∷◌, ◌||◌, ap, sym, ◌∙◌, refl, List, [], inl, inr, subst, ℕ, get_or, rules}
 use Rattle.vk_model.specs.Sync.Node.{Node}
 use Rattle.vk_model.specs.Sync.Edge.{by_semaphore}
-use Rattle.vk_order.specs.Inner.Links.{unsignaled}
+use Rattle.vk_order.specs.Edges.{unsignaled}
 use Rattle.vk_order.specs.Inner.Reaches.{Reaches}
 use Rattle.vk_order.specs.Queries.{led_to}
 use Rattle.vk_order.specs.PointViews.{node_of, nodes_after}

@@ -1,6 +1,6 @@
 use Rattle.std.proofs.Common.{◌≡◌, ap, sym, ◌∙◌, refl, Bool, false, ◌||◌}
 use Rattle.vk_model.specs.Sync.Edge.{by_semaphore}
-use Rattle.vk_order.specs.Inner.Links.{unsignaled}
+use Rattle.vk_order.specs.Edges.{unsignaled}
 use Rattle.vk_order.specs.PointViews.{node_of}
 use Rattle.vk_order.proofs.points.leads_to_next.Goals as goal
 

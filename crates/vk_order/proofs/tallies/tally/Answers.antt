@@ -5,8 +5,7 @@ use Rattle.std.proofs.Math.Seq.{map-set_same}
 use Rattle.vk_order.specs.declared.tallies.LineTally.{LineTally}
 use Rattle.vk_order.specs.declared.lines.Line.{Line}
 use Rattle.vk_order.specs.PointViews.{act_of}
-use Rattle.vk_order.specs.Lines.{class_on}
-use Rattle.vk_order.specs.Inner.Leads.{is_of_sets}
+use Rattle.vk_order.specs.Lines.{class_on, is_of_sets}
 use Rattle.vk_order.specs.Inner.Tallies.{lines_of}
 use Rattle.vk_order.proofs.OwnLemmas.{index_low}
 use Rattle.vk_order.proofs.TallyLemmas.{line_there, tallied_more}

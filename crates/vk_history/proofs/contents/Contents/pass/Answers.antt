@@ -5,7 +5,7 @@ use Rattle.vk_model.specs.World.Effect.{after_element}
 use Rattle.vk_model.specs.World.Ownership.{family_of, Transfer, transfer}
 use Rattle.vk_layouts.specs.Owned.{transfer_of}
 use Rattle.vk_history.specs.Contents.{AreAllAt, BecomesIn}
-use Rattle.vk_history.specs.Passing.{IsPassed, is_on_resource, touched_by}
+use Rattle.vk_history.specs.Inner.Passing.{IsPassed, is_on_resource, touched_by}
 use Rattle.vk_touches.proofs.PartChanges.{on_three}
 use Rattle.vk_history.proofs.Kept.PassSteps.{passed_buffer, passed_image}
 use Rattle.vk_history.proofs.contents.Contents.pass.Goals as goal

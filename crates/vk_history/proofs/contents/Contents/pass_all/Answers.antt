@@ -5,7 +5,7 @@ use Rattle.vk_model.specs.Sync.Node.{nodes}
 use Rattle.vk_model.specs.World.Effect.{after_element}
 use Rattle.vk_model.specs.World.Ownership.{family_of}
 use Rattle.vk_history.specs.Contents.{AreAllAt}
-use Rattle.vk_history.specs.Passing.{touched_by_all}
+use Rattle.vk_history.specs.Inner.Passing.{touched_by_all}
 use Rattle.vk_history.proofs.Kept.PassingAll.{none_passed, one_passed, all_passed}
 use Rattle.vk_history.proofs.contents.Contents.pass_all.Goals as goal
 

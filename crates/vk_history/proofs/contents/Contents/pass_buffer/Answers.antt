@@ -1,6 +1,6 @@
 use Rattle.vk_layouts.specs.Owned.{transfer_of}
 use Rattle.vk_ids.specs.Ids.{value_of}
-use Rattle.vk_history.specs.Passing.{IsPassed}
+use Rattle.vk_history.specs.Inner.Passing.{IsPassed}
 use Rattle.vk_history.proofs.Kept.Becoming.{changed_in}
 use Rattle.vk_history.proofs.contents.Contents.pass_buffer.Goals as goal
 

@@ -1,5 +1,5 @@
 use Rattle.vk_ids.specs.Ids.{value_of}
-use Rattle.vk_history.specs.Passing.{IsImagePassed}
+use Rattle.vk_history.specs.Inner.Passing.{IsImagePassed}
 use Rattle.vk_history.proofs.Kept.Becoming.{changed_in}
 use Rattle.vk_history.proofs.contents.Contents.pass_image.Goals as goal
 

@@ -3,8 +3,7 @@ use Rattle.vk_model.specs.Sync.Node.{Node, Depends, Barrier}
 use Rattle.vk_model.specs.World.Ownership.{dependency_of}
 use Rattle.vk_order.specs.declared.lines.Line.{Line}
 use Rattle.vk_order.specs.Barriers.{element_node}
-use Rattle.vk_order.specs.Inner.Clocks.{place}
-use Rattle.vk_order.specs.Lines.{has_transfer, has_host, class_on, class_of}
+use Rattle.vk_order.specs.Lines.{place, has_transfer, has_host, class_on, class_of}
 use Rattle.vk_touches.specs.declared.touches.Spot.{Spot}
 use Rattle.vk_history.proofs.Using.Lasts.{element_counted}
 use Rattle.vk_history.proofs.element_spots.ElementSpots.take.Goals as goal

@@ -2,7 +2,7 @@ use Rattle.std.proofs.Common.{ap, sym, ◌∙◌, subst}
 use Rattle.vk_model.specs.declared.command.Cmd.{Cmd}
 use Rattle.vk_model.specs.Sync.Node.{SetOf, AwaitOf, with_acts, command_acts}
 use Rattle.vk_order.specs.declared.lines.Line.TheVariants.{Commands as OfCommands}
-use Rattle.vk_order.specs.Inner.Clocks.{place}
+use Rattle.vk_order.specs.Lines.{place}
 use Rattle.std.specs.Prelude.{length}
 use Rattle.vk_history.specs.Uses.{AreLast, uses_in}
 use Rattle.vk_history.proofs.Using.Lasts.{events_come, plain_comes}

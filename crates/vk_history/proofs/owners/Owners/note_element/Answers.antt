@@ -1,8 +1,7 @@
 use Rattle.std.proofs.Common.{◌≡◌, ◌∙◌, ℕ, ap, sym, subst, length, Some}
 use Rattle.vk_order.specs.declared.lines.Line.{Line}
 use Rattle.vk_order.specs.declared.parts.Spot.{Spot}
-use Rattle.vk_order.specs.Inner.Clocks.{place}
-use Rattle.vk_order.specs.Lines.{has_transfer, has_host, line_on}
+use Rattle.vk_order.specs.Lines.{place, has_transfer, has_host, line_on}
 use Rattle.vk_model.specs.Sync.Node.{Act, Depends, Barrier}
 use Rattle.vk_model.specs.World.Ownership.{dependency_of}
 use Rattle.vk_history.specs.Owners.{kept_at, after_element}

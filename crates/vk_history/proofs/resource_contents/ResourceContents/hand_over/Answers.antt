@@ -5,7 +5,7 @@ use Rattle.vk_history.proofs.Kept.PassSteps.{owner_at}
 use Rattle.vk_model.specs.declared.command.Element.TheVariants as element
 use Rattle.vk_layouts.specs.Owned.{transfer_of}
 use Rattle.vk_layouts.specs.declared.ownership.Transfer.{Transfer}
-use Rattle.vk_history.specs.Passing.{IsHandedOver}
+use Rattle.vk_history.specs.Inner.Passing.{IsHandedOver}
 use Rattle.vk_history.proofs.resource_contents.ResourceContents.hand_over.Goals as goal
 
 pub returns-in_ok-release-in-Release : goal.returns-in_ok-release-in-Release

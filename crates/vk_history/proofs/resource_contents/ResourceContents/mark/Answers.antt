@@ -1,5 +1,5 @@
 use Rattle.std.proofs.Common.{rules, ◌≡◌, ◌∙◌, ◌&&◌, Bool, true, false, ap, sym, subst}
-use Rattle.vk_history.specs.Passing.{IsMarked}
+use Rattle.vk_history.specs.Inner.Passing.{IsMarked}
 use Rattle.vk_history.proofs.Kept.ImageRanges.{marked_none}
 use Rattle.vk_model.specs.World.Effect.{in_range}
 use Rattle.vk_image_bytes.specs.Numbers.{byte_of}

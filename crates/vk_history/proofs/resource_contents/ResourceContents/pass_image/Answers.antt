@@ -1,7 +1,7 @@
 use Rattle.std.proofs.Common.{ℕ, Bool, ap, subst, ◌∙◌, ◌≡◌, not, ◌&&◌}
 use Rattle.vk_model.specs.World.Ownership.{family_of, is_transition, releases, Transfer, transfer}
 use Rattle.vk_layouts.specs.Owned.{transfer_of}
-use Rattle.vk_history.specs.Passing.{IsHandedOver, IsMarked}
+use Rattle.vk_history.specs.Inner.Passing.{IsHandedOver, IsMarked}
 use Rattle.vk_history.proofs.Kept.ImageSteps.{passed_at}
 use Rattle.vk_history.proofs.resource_contents.ResourceContents.pass_image.Goals as goal
 

@@ -1,6 +1,6 @@
 use Rattle.std.proofs.Common.{arith, refl, ap, ◌∙◌}
 use Rattle.vk_order.specs.Bytes.{byte_of}
-use Rattle.vk_order.specs.Inner.Availability.{made_available_by}
+use Rattle.vk_order.specs.Edges.{made_available_by}
 use Rattle.vk_facts.specs.Hazards.{node_at}
 use Rattle.vk_facts.proofs.RowNodes.{row_count, same_row}
 use Rattle.vk_links.proofs.AvailabilityLemmas.{made_available_same}

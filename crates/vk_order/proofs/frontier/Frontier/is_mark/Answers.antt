@@ -6,8 +6,7 @@ use Rattle.vk_model.proofs.Sync.Paths.{edge_forward}
 use Rattle.vk_order.specs.Bytes.{byte_of}
 use Rattle.vk_model.proofs.Lists.Truths.{clash}
 use Rattle.vk_order.specs.declared.parts.Spot.{Spot}
-use Rattle.vk_order.specs.Lines.{line_of}
-use Rattle.vk_order.specs.Inner.Clocks.{place}
+use Rattle.vk_order.specs.Lines.{line_of, place}
 use Rattle.vk_order.specs.Inner.Tallies.{lines_of}
 use Rattle.vk_order.proofs.frontier.Frontier.is_mark.Goals as goal
 

@@ -2,8 +2,7 @@ use Rattle.std.proofs.Common.{◌≡◌, ◌∷◌, Some, ap, sym, ◌∙◌}
 use Rattle.vk_model.proofs.Lists.Members.{contains-tail}
 use Rattle.vk_model.proofs.Lists.Truths.{clash}
 use Rattle.vk_order.specs.declared.parts.Spot.{Spot}
-use Rattle.vk_order.specs.Lines.{line_of}
-use Rattle.vk_order.specs.Inner.Clocks.{place}
+use Rattle.vk_order.specs.Lines.{line_of, place}
 use Rattle.vk_order.specs.Inner.Tallies.{lines_of}
 use Rattle.vk_order.proofs.KnownRows.{at_old}
 use Rattle.vk_order.proofs.ServeLemmas.{part_reached}

@@ -6,9 +6,8 @@ use Rattle.vk_model.specs.Sync.Edge.{edge, is_command, is_host}
 use Rattle.vk_model.specs.Sync.Seen.{makes_writes_available}
 use Rattle.vk_order.specs.declared.parts.Part.{Part}
 use Rattle.vk_order.specs.Bytes.{byte_of}
-use Rattle.vk_order.specs.Lines.{line_of}
+use Rattle.vk_order.specs.Lines.{line_of, place}
 use Rattle.vk_order.specs.Wide.{access_of}
-use Rattle.vk_order.specs.Inner.Clocks.{place}
 use Rattle.vk_order.specs.Inner.Parts.{parts_at, AreFrom, IsPart, Serves}
 use Rattle.vk_order.specs.Inner.Tallies.{lines_of}
 use Rattle.vk_order.specs.Frontiers.{IsFrontier, IsNewNode}

@@ -14,11 +14,10 @@ use Rattle.vk_order.specs.declared.frontier.Frontier.{Frontier}
 use Rattle.vk_order.specs.declared.parts.Part.{Part}
 use Rattle.vk_order.specs.declared.parts.Spot.{Spot}
 use Rattle.vk_order.specs.Bytes.{byte_of}
-use Rattle.vk_order.specs.Lines.{line_of}
+use Rattle.vk_order.specs.Lines.{line_of, place}
 use Rattle.vk_order.specs.Limited.{is_limited, Reaches}
 use Rattle.vk_order.specs.Frontiers.{IsFrontier}
 use Rattle.vk_order.specs.Inner.Alone.{AlwaysMarks, NeverMarks}
-use Rattle.vk_order.specs.Inner.Clocks.{place}
 use Rattle.vk_order.specs.Inner.Parts.{IsPart, AreFrom, parts_at}
 use Rattle.vk_order.specs.Inner.Tallies.{lines_of}
 use Rattle.vk_order.proofs.ServeLemmas.{available_covers}

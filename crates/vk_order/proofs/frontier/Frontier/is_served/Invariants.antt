@@ -5,10 +5,9 @@ use Rattle.vk_model.specs.Sync.Node.{Node}
 use Rattle.vk_model.specs.Sync.Edge.{is_command, is_host}
 use Rattle.vk_order.specs.declared.parts.Part.{Part}
 use Rattle.vk_order.specs.Bytes.{byte_of}
-use Rattle.vk_order.specs.Lines.{line_of}
+use Rattle.vk_order.specs.Lines.{line_of, place}
 use Rattle.vk_order.specs.Limited.{Reaches}
 use Rattle.vk_order.specs.Wide.{access_of}
-use Rattle.vk_order.specs.Inner.Clocks.{place}
 use Rattle.vk_order.specs.Inner.Parts.{IsPart, opens}
 use Rattle.vk_order.specs.Inner.Tallies.{lines_of}
 use Rattle.vk_order.specs.Frontiers.{IsNewNode}

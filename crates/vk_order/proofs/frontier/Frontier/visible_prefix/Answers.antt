@@ -2,7 +2,7 @@ use Rattle.std.proofs.Common.{◌≡◌, ◌∙◌, ℕ, ap, sym}
 use Rattle.std.specs.Prelude.{nat_lt, if◌then◌else◌}
 use Rattle.std.proofs.lemmas.Bool.{and_parts}
 use Rattle.vk_order.specs.Wide.{access_of}
-use Rattle.vk_order.specs.Inner.Clocks.{same_line}
+use Rattle.vk_order.specs.Lines.{same_line}
 use Rattle.vk_order.specs.Inner.Counts.{count_in}
 use Rattle.vk_order.specs.Inner.Kept.{clock_at}
 use Rattle.vk_order.specs.Inner.Rows.{Visible, OnHost}

@@ -1,7 +1,7 @@
 use Rattle.std.proofs.Common.{◌≡◌, refl, ap, sym, ◌∙◌, ℕ, nat_lt, arith}
 use Rattle.vk_order.specs.declared.lines.Line.TheVariants.{Commands as OfCommands}
 use Rattle.vk_order.specs.declared.counts.Counts.{Counts}
-use Rattle.vk_order.specs.Inner.Clocks.{place}
+use Rattle.vk_order.specs.Lines.{place}
 use Rattle.vk_order.specs.Inner.Fronts.{clock_in}
 use Rattle.vk_order.specs.Inner.Kept.{clock_at}
 use Rattle.vk_order.proofs.CountLemmas.{at_line}

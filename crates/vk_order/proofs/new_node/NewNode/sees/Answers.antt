@@ -4,7 +4,7 @@ use Rattle.vk_model.specs.Sync.Node.{Act}
 use Rattle.vk_model.specs.Sync.Edge.{is_host, is_element}
 use Rattle.vk_order.specs.declared.lines.Line.TheVariants.{Commands as OfCommands}
 use Rattle.vk_order.specs.Wide.{access_of}
-use Rattle.vk_order.specs.Inner.Clocks.{place}
+use Rattle.vk_order.specs.Lines.{place}
 use Rattle.vk_order.specs.Inner.Counts.{count_in}
 use Rattle.vk_order.specs.Inner.Kept.{clock_at}
 use Rattle.vk_order.specs.Inner.Rows.{Visible, OnHost}

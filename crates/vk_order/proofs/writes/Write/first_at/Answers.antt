@@ -1,6 +1,6 @@
 use Rattle.std.proofs.Common.{◌≡◌, Some, false, ap, sym, ◌∙◌}
 use Rattle.vk_order.specs.PointViews.{act_of}
-use Rattle.vk_order.specs.Inner.Leads.{is_of_sets}
+use Rattle.vk_order.specs.Lines.{is_of_sets}
 use Rattle.vk_order.proofs.ClockLemmas.{line_same}
 use Rattle.vk_order.proofs.AvailabilityLemmas.{lined}
 use Rattle.vk_order.proofs.writes.Write.first_at.Goals as goal

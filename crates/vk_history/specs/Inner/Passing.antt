@@ -15,8 +15,7 @@ use Rattle.vk_model.specs.World.Bytes.{Byte, World, Released}
 use Rattle.vk_model.specs.World.Effect.{in_range, used, set_owner, transitioned, after_element, after_buffer_element, after_image_element}
 use Rattle.vk_model.specs.World.Ownership.{family_of, Transfer, is_transition}
 use Rattle.vk_order.specs.Barriers.{element_node}
-use Rattle.vk_order.specs.Inner.Clocks.{place}
-use Rattle.vk_order.specs.Lines.{class_of}
+use Rattle.vk_order.specs.Lines.{place, class_of}
 use Rattle.vk_image_bytes.specs.Numbers.{byte_count, byte_of}
 use Rattle.vk_touches.specs.declared.touches.LastTouches.{LastTouches}
 use Rattle.vk_touches.specs.declared.touches.Spot.{Spot}
