@@ -29,7 +29,7 @@ use list_block::ListBlock;
 use live_block::LiveBlock;
 use no_block::NoBlock;
 use observers::{Lines, Sum, Times};
-use plan::{BlockKind, Mode, Plan, Telling};
+use plan::{BlockKind, Mode, Plan, Report};
 use std::rt::{Clock, Env};
 use std::{env, io};
 
@@ -44,13 +44,13 @@ fn make_steps<R: Print + Alloc + Clock, B: LiveBlock>(
         steps::run(block, plan, &mut lines)?;
         return lines.finish(block);
     }
-    match plan.telling {
-        Telling::Sum => {
+    match plan.report {
+        Report::Sum => {
             let mut sum = Sum::new();
             steps::run(block, plan, &mut sum)?;
             println!(rt; "{sum}")?;
         }
-        Telling::Times => {
+        Report::Times => {
             let mut times = Times::new(rt);
             steps::run(block, plan, &mut times)?;
             println!(rt; "{times}")?;

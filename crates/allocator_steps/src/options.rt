@@ -1,6 +1,6 @@
 ghost use Rattle.std.specs.Prelude.{◌<◌, ◌≤◌, ◌^◌};
 
-use crate::plan::{Alignment, BlockKind, Mode, Order, Plan, Telling};
+use crate::plan::{Alignment, BlockKind, Mode, Order, Plan, Report};
 use crate::request::UNIT;
 use clap::{Arg, ArgAction, ArgMatches, Command, Error, value_parser};
 use std::alloc::{AllocError, Global};
@@ -110,10 +110,10 @@ pub fn read(alloc: Global, arguments: &[String]) -> Result<Plan, Error> {
     Ok(Plan {
         block,
         mode: mode_of(&matches),
-        telling: if matches.get_flag("clock") {
-            Telling::Times
+        report: if matches.get_flag("clock") {
+            Report::Times
         } else {
-            Telling::Sum
+            Report::Sum
         },
         size: block_bytes(&matches),
         steps: number_of(&matches, "steps"),

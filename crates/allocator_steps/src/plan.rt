@@ -26,9 +26,9 @@ pub enum Mode {
     Draw,
 }
 
-/// What is told of steps that aren't written.
+/// What is reported of steps that aren't written.
 #[derive(Clone, Copy, Debug, PartialEq, Eq)]
-pub enum Telling {
+pub enum Report {
     /// A sum of their answers.
     Sum,
     /// It, and how long requests and returns took.
@@ -68,8 +68,8 @@ pub struct Plan {
     pub block: BlockKind,
     /// What is done with the steps.
     pub mode: Mode,
-    /// What is told of them where they aren't written.
-    pub telling: Telling,
+    /// What is reported of them where they aren't written.
+    pub report: Report,
     /// The block's bytes.
     pub size: u64,
     /// How many steps are made.

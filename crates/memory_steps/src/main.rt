@@ -19,7 +19,7 @@ mod plan;
 mod spent;
 
 use buffers::Buffers;
-use plan::{Plan, Telling, Work};
+use plan::{Plan, Report, Work};
 use spent::Spent;
 use std::env;
 use std::rt::{Clock, Env};
@@ -42,9 +42,9 @@ fn make_turns<R: Print + AllocGlobal + Clock>(
     let turns = plan.turns;
     let bytes = buffers.size();
     let sum = buffers.sum();
-    match plan.telling {
-        Telling::Sum => println!(rt; "{work} {turns} of {bytes} sum {sum}")?,
-        Telling::Times => println!(rt; "{work} {turns} of {bytes} sum {sum} in {spent}")?,
+    match plan.report {
+        Report::Sum => println!(rt; "{work} {turns} of {bytes} sum {sum}")?,
+        Report::Times => println!(rt; "{work} {turns} of {bytes} sum {sum} in {spent}")?,
     }
     Ok(())
 }

@@ -1,6 +1,6 @@
 ghost use Rattle.std.specs.Prelude.{◌≤◌, ◌^◌};
 
-use crate::plan::{Plan, Telling, Work};
+use crate::plan::{Plan, Report, Work};
 use clap::{Arg, ArgAction, ArgMatches, Command, Error, value_parser};
 use std::alloc::{AllocError, Global};
 
@@ -76,10 +76,10 @@ pub fn read(alloc: Global, arguments: &[String]) -> Result<Plan, Error> {
     let matches = command(alloc)?.try_get_matches_from(arguments)?;
     Ok(Plan {
         work: work_of(&matches),
-        telling: if matches.get_flag("clock") {
-            Telling::Times
+        report: if matches.get_flag("clock") {
+            Report::Times
         } else {
-            Telling::Sum
+            Report::Sum
         },
         bytes: bytes_of(&matches),
         turns: u32::try_from(number_of(&matches, "turns")).unwrap_or(u32::MAX),

@@ -51,9 +51,9 @@ impl fmt::Display for Work {
     }
 }
 
-/// What is told of the turns.
+/// What is reported of the turns.
 #[derive(Clone, Copy, Debug, PartialEq, Eq)]
-pub enum Telling {
+pub enum Report {
     /// A sum of the bytes in the end.
     Sum,
     /// It, and how long they took.
@@ -65,8 +65,8 @@ pub enum Telling {
 pub struct Plan {
     /// What is done; all sorts one after another where none is named.
     pub work: Option<Work>,
-    /// What is told of it.
-    pub telling: Telling,
+    /// What is reported of it.
+    pub report: Report,
     /// The bytes of a region.
     pub bytes: u64,
     /// How many turns are made.

@@ -126,7 +126,7 @@ impl Memories {
             × (self.new ≡ record self.old { objects = self.old.objects ++ Some (fresh memory_type size) ∷ [] })) }
         ensures room { IsOk result → ¬ IsFull self.old memory_type size }
         ensures full { IsErrOf result MemoryError.NoRoom → IsFull self.old memory_type size }
-        ensures told { IsFull self.old memory_type size → IsErrOf result MemoryError.NoRoom }
+        ensures reported { IsFull self.old memory_type size → IsErrOf result MemoryError.NoRoom }
         ensures err { OnErr result (self.new ≡ self.old) }
     {
         if self.live >= MOST_OBJECTS {
