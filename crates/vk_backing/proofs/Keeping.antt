@@ -24,9 +24,10 @@ use Rattle.vma_pools.specs.State.{PoolsState, pool_at, allocation_at, request_in
 use Rattle.vma_pools.proofs.NumberLemmas.{at-old, at-other}
 use Rattle.vma_pools.proofs.PoolAlike.{are-length, are-at}
 use Rattle.vma_pools.proofs.StateLemmas.{some-is}
+use Rattle.vma_pools.proofs.CountedLemmas.{old-blocks}
 use Rattle.vk_backing.specs.Backed.{Backed, number_in, allocation_of, LiesIn, IsBacked}
 use Rattle.vk_backing.proofs.Spots.{are_spots}
-use Rattle.vk_backing.proofs.Sharing.{given_pools, sharing, pool_here, pool_other, old_allocation, blocks_old, blocks_new}
+use Rattle.vk_backing.proofs.Sharing.{given_pools, sharing, pool_here, pool_other, old_allocation, blocks_new}
 use Rattle.vk_backing.proofs.Releasing.{back_here, back_was, back_allocation, backing, shared_was}
 
 -- ---- starts are aligned
@@ -95,7 +96,7 @@ module _ (p : Pool) (r : Request) (upper : Bool) (s : BlockStart) where
 -- a block that a pool has is the same memory object when the pool has given a place
 pub memory_given : (b : Backed) (m : MemoryState) → IsBacked b m → (p : ℕ) (was now : Kept) → pool_at b.pools p ≡ Some was → (after : MemoryState) (r : Request) (upper : Bool) (s : BlockStart) → Takes was now m after r upper s → (n x : ℕ) → IsMemoryOf was n x → IsMemoryOf now n x
 memory_given b m h p was now there after r upper s (inl t) n x of =
-    let a = blocks_old was.pool r upper s t.0.has in let l = are-length (pool_with was.pool r upper s).blocks now.pool.blocks t.0.pool.blocks in
+    let a = old-blocks was.pool r upper s t.0.has in let l = are-length (pool_with was.pool r upper s).blocks now.pool.blocks t.0.pool.blocks in
     record {
       index = of.index;
       there = omega (arith, of.there, a, l);

@@ -22,13 +22,14 @@ use Rattle.vma_pools.specs.Pools.{Kept, Takes, heaps}
 use Rattle.vma_pools.specs.State.{pool_at, allocation_at, start_of, request_in}
 use Rattle.vma_pools.proofs.PoolAlike.{pool-sym, pool-trans, alike-gives_place, alike-no_room, alike-pool_with}
 use Rattle.vma_pools.proofs.StateLemmas.{some-is, given-info, takes-gives}
+use Rattle.vma_pools.proofs.CountedLemmas.{old-blocks}
 use Rattle.vk_backing.specs.Backed.{Backed, number_in, object_of, pool_of, allocation_of, allocation_by, IsBacked}
 use Rattle.vk_backing.specs.Allotted.{allotted, kind_of, bytes_on, one_if, own_memory, resident_of, ArePoolsOf, Fulfils}
 use Rattle.vk_backing.proofs.Keyed.{picked_in, picked_out, picked_map, found_some, sum_one}
 use Rattle.vk_backing.proofs.Grown.{grown_kinds, kind_stays, live_number}
 use Rattle.vk_backing.proofs.Heaps.{room_found, found_room}
 use Rattle.vk_backing.proofs.Owning.{heap_bytes}
-use Rattle.vk_backing.proofs.Sharing.{blocks_old, blocks_new, given, next, sharing, pool_here, pool_other, old_allocation, new_allocated}
+use Rattle.vk_backing.proofs.Sharing.{blocks_new, given, next, sharing, pool_here, pool_other, old_allocation, new_allocated}
 
 -- ---- the pool of a device
 
@@ -132,7 +133,7 @@ module _ (b : Backed) (m : MemoryState) (h : IsBacked b m) (p : ℕ) (was now : 
   bytes_old : (heap : ℕ) → s.block < was.pool.next → pool_bytes heap with_it ≡ pool_bytes heap q
   bytes_old heap lt =
       ap (λ (i : PoolInfo). if heap_of i.memory_type == heap then length with_it.pool.blocks * i.block_size else 0) info_is
-      ∙ ap (λ (n : ℕ). if heap_of q.pool.info.memory_type == heap then n * q.pool.info.block_size else 0) (blocks_old q.pool asks-of upper s (omega (arith, lt, alike.next)))
+      ∙ ap (λ (n : ℕ). if heap_of q.pool.info.memory_type == heap then n * q.pool.info.block_size else 0) (old-blocks q.pool asks-of upper s (omega (arith, lt, alike.next)))
 
   bytes_new : (first : Bool) → s.block ≡ was.pool.next → pool_bytes (if first then 0 else 1) with_it ≡ pool_bytes (if first then 0 else 1) q + bytes_on first (Some (was.pool.info.memory_type, was.pool.info.block_size))
   bytes_new first is =
@@ -243,7 +244,7 @@ module _ (b : Backed) (m : MemoryState) (h : IsBacked b m) (p : ℕ) (was now : 
 
       go-count : Takes was now m after (request_in asked) upper s → (heaps_of (with_pool with_it d)).objects ≡ sum_by one_if (map kind_of after.objects)
       go-count (inl t) =
-          let c = changed_sum (λ (o : PoolMemory). length o.pool.blocks) in let o = blocks_old q.pool asks-of upper s (omega (arith, t.0.has, alike.next)) in
+          let c = changed_sum (λ (o : PoolMemory). length o.pool.blocks) in let o = old-blocks q.pool asks-of upper s (omega (arith, t.0.has, alike.next)) in
           let k = ap (λ (x : MemoryState). sum_by one_if (map kind_of x.objects)) t.1 in omega (arith, c, is.count, o, k)
       go-count (inr t) =
           let c = changed_sum (λ (o : PoolMemory). length o.pool.blocks) in let o = blocks_new q.pool asks-of upper s (t.is_new ∙ alike.next) in

@@ -1,8 +1,8 @@
 -- A resource gets a place in a pool.
 use Rattle.std.proofs.Common.{◌≡◌, ℕ, ◌+◌, ◌<◌, List, [], ◌∷◌, ◌++◌, set, length, get_or, Bool, Some, None, refl, sym, ap, subst, ◌∙◌, arith, inl, inr, ◌⊎◌}
 use Rattle.std.specs.Prelude.{if◌then◌else◌}
-use Rattle.std.proofs.lemmas.Bool.{cases_eq, cases_lt, ne_eqb, eq-eqb}
-use Rattle.std.proofs.lemmas.List.{length-map, length-append, get_or_append_left}
+use Rattle.std.proofs.lemmas.Bool.{cases_eq, cases_lt, eq-eqb}
+use Rattle.std.proofs.lemmas.List.{length-append, get_or_append_left}
 use Rattle.std.proofs.Math.Seq.{get_or-append_seam}
 use Rattle.vk_memory.specs.MemoryState.{MemoryState, IsLive}
 use Rattle.vk_model.specs.Memory.Suballocation.{Request}
@@ -17,17 +17,12 @@ use Rattle.vma_pools.specs.State.{PoolsState, pool_at, allocation_at, start_of, 
 use Rattle.vma_pools.proofs.NumberLemmas.{at-more, at-old, at-new, at-below, at-set, at-other}
 use Rattle.vma_pools.proofs.PoolAlike.{are-length}
 use Rattle.vma_pools.proofs.StateLemmas.{some-is}
+use Rattle.vma_pools.proofs.CountedLemmas.{old-blocks}
 use Rattle.vk_backing.specs.Backed.{Backed, AreSized, number_in, object_of, dedicated_of, pool_of, allocation_of, IsBacked, IsShared, IsOwner, IsWhole}
 use Rattle.vk_backing.proofs.Grown.{grown_live, grown_sized, live_number}
 use Rattle.vk_backing.proofs.Turned.{stays, dedicated_stays}
 
 -- ---- the blocks of a pool that has given a place
-
-pub blocks_old : (p : Pool) (r : Request) (upper : Bool) (s : BlockStart) → s.block < p.next → length (pool_with p r upper s).blocks ≡ length p.blocks
-blocks_old p r upper s lt =
-    ap (λ (v : Bool). length (if v then record p { blocks = p.blocks ++ record { number = p.next; block = block_with (new_block p.info) r upper s.start } ∷ []; next = p.next + 1 } else record p { blocks = in_block (λ k. block_with k r upper s.start) s.block p.blocks }).blocks)
-    (ne_eqb s.block p.next (λ e. omega (arith, lt, e)))
-    ∙ length-map p.blocks _
 
 pub blocks_new : (p : Pool) (r : Request) (upper : Bool) (s : BlockStart) → s.block ≡ p.next → length (pool_with p r upper s).blocks ≡ length p.blocks + 1
 blocks_new p r upper s is =
@@ -67,7 +62,7 @@ module _ (b : Backed) (m : MemoryState) (h : IsBacked b m) (p : ℕ) (was now : 
 
   now_matched : (t : Takes was now m after (request_in asked) upper (start_of place)) → length now.memories ≡ length now.pool.blocks
   now_matched (inl t) =
-      let a = blocks_old was.pool (request_in asked) upper (start_of place) t.0.has in
+      let a = old-blocks was.pool (request_in asked) upper (start_of place) t.0.has in
       let l = are-length (pool_with was.pool (request_in asked) upper (start_of place)).blocks now.pool.blocks t.0.pool.blocks in
       let w = h.matched p was there in let e = ap (λ (ms : List ℕ). length ms) t.0.memories in omega (arith, a, l, w, e)
   now_matched (inr t) =

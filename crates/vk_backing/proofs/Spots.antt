@@ -1,7 +1,8 @@
 -- Where resources lie in pools.
-use Rattle.std.proofs.Common.{◌≡◌, ℕ, zero, suc, ◌+◌, ◌<◌, ◌≤◌, List, [], ◌∷◌, length, get_or, false, ◌&&◌, Some, refl, sym, ap, subst, ◌∙◌, arith, inl, inr, ◌⊎◌}
+use Rattle.std.proofs.Common.{◌≡◌, ℕ, ◌+◌, ◌<◌, ◌≤◌, [], length, get_or, false, ◌&&◌, Some, refl, sym, ap, subst, ◌∙◌, arith, inl, inr, ◌⊎◌}
 use Rattle.std.specs.Prelude.{nat_lt, AllPairs}
 use Rattle.std.proofs.lemmas.Bool.{cases_lt, or_parts, and_from, lt-ltb, both_ways}
+use Rattle.std.proofs.lemmas.List.{get_or_default}
 use Rattle.vk_memory.specs.MemoryState.{MemoryState, IsLive, region_of}
 use Rattle.vk_model.specs.declared.resource.Spot.{Spot}
 use Rattle.vk_model.specs.Memory.Suballocation.{ranges_meet}
@@ -31,11 +32,6 @@ beside a n b m some few apart = elim (cases_lt a (b + m)) [
   ]
   | inr over ↦ inr over
 ]
-
-default-free : {A : Type 0} (xs : List A) (k : ℕ) (d e : A) → k < length xs → get_or xs k d ≡ get_or xs k e
-default-free [] k d e lt = absurd (omega (arith, lt))
-default-free (x ∷ xs) zero d e lt = refl
-default-free (x ∷ xs) (suc k) d e lt = default-free xs k d e (omega (arith, lt))
 
 no_block : PoolBlock
 no_block = record { number = 0; block = General 0 [] }
@@ -111,7 +107,7 @@ module _ (b : Backed) (m : MemoryState) (h : IsBacked b m) where
           lies = x.lies;
           kept = k.0;
           there = k.1;
-          memory = record { index = at.0; there = at.1; numbered = λ d. ap (λ (c : PoolBlock). c.number) (default-free k.0.pool.blocks at.0 d k.2.block at.1 ∙ at.2) ∙ k.2.number; is = refl };
+          memory = record { index = at.0; there = at.1; numbered = λ d. ap (λ (c : PoolBlock). c.number) (get_or_default k.0.pool.blocks at.0 d k.2.block at.1 ∙ at.2) ∙ k.2.number; is = refl };
           offset = refl;
           size = refl;
         },

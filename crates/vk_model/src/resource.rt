@@ -31,14 +31,28 @@ pub enum PoolKind {
 /// Where a resource gets its memory.
 #[derive(Clone, Copy, PartialEq, Eq, Debug)]
 pub enum Place {
-    /// A memory object of its own, of this memory type.
-    Dedicated { memory_type: u32 },
+    /// A memory object of its own.
+    Dedicated {
+        /// The memory type of the object.
+        memory_type: u32,
+    },
     /// A block of the pool.
-    Pool { pool: u32 },
+    Pool {
+        /// The pool's id.
+        pool: u32,
+    },
     /// The upper end of the only block of a linear pool.
-    PoolUpper { pool: u32 },
+    PoolUpper {
+        /// The pool's id.
+        pool: u32,
+    },
     /// An offset in bytes in a memory object that the trace made.
-    Memory { memory: u32, offset: u64 },
+    Memory {
+        /// The memory object's id.
+        memory: u32,
+        /// Where in it the resource starts, in bytes.
+        offset: u64,
+    },
 }
 
 /// What a pool is made with, as `VmaPoolCreateInfo`.

@@ -1,15 +1,16 @@
 -- The widest gap of a block, over its ranges in rising order.
-use Rattle.std.proofs.Common.{◌≡◌, ℕ, ◌+◌, ◌-◌, ◌<◌, ◌≤◌, List, [], ◌∷◌, ◌++◌, get_or, Bool, false, not, max, refl, ap, sym, subst, ◌∙◌, arith, inl, inr, ◌⊎◌}
+use Rattle.std.proofs.Common.{◌≡◌, ℕ, ◌+◌, ◌-◌, ◌<◌, ◌≤◌, List, [], ◌∷◌, ◌++◌, get_or, false, not, max, refl, ap, sym, subst, ◌∙◌, arith, inl, inr, ◌⊎◌}
 use Rattle.std.specs.Prelude.{All, IsTrue, reverse, nat_le}
 use Rattle.std.specs.List.{list_any}
 use Rattle.std.proofs.lemmas.List.{reverse-append}
 use Rattle.std.proofs.lemmas.List.Elements.{All-nil, All-cons, All-head, All-tail, All-append, All-weaker, All-contains}
 use Rattle.std.proofs.lemmas.List.Sorted.{IsPermutation-sym, IsPermutation-reverse, All-permutation}
-use Rattle.std.proofs.lemmas.Bool.{and_parts, and_from, and_left, and_right, le-leb, leb-true, le-ltb, lt-ltb, cases_lt, cases_eq, not-true, not_from_false, both_ways, or_parts}
+use Rattle.std.proofs.lemmas.Bool.{and_parts, and_from, and_left, and_right, le-leb, leb-true, le-ltb, lt-ltb, cases_lt, cases_eq, not-true, not_from_false, both_ways}
 use Rattle.vk_model.specs.Memory.Suballocation.{Taken, ranges_meet, is_free, IsLargestFree}
 use Rattle.vk_model.specs.Memory.Room.{Linear, all_taken, last_start}
 use Rattle.vk_model.specs.Memory.LinearBlocks.{Rises, Falls, IsLinearBlock}
 use Rattle.vk_model.proofs.Lists.Members.{none_passes_any}
+use Rattle.vk_model.proofs.Memory.Taken.{none_all}
 use Rattle.vma_linear.specs.Inner.Widest.{widest_up, widest_down}
 use Rattle.vma_linear.proofs.Places.{all_left, all_right, rises_all}
 
@@ -101,10 +102,6 @@ falls_turned bound high (t ∷ ts) low f le =
     (rises_append bound (reverse ts) (t ∷ []) t.start high (falls_turned bound t.start ts low f.1 le) (omega arith, f.0))
 
 -- ---- of a block
-
-none_all : {A : Type 0} (p : A → Bool) (xs : List A) → list_any p xs ≡ false → All (λ x. p x ≡ false) xs
-none_all p [] none = All-nil (λ x. p x ≡ false)
-none_all p (x ∷ xs) none = All-cons (λ y. p y ≡ false) x xs (or_parts (p x) (list_any p xs) none).0 (none_all p xs (or_parts (p x) (list_any p xs) none).1)
 
 module _ (b : Linear) (h : IsLinearBlock b) where
   abbrev in_order : List Taken

@@ -1,17 +1,20 @@
 -- How much of a pool's blocks is taken when a range more is, and when one is given back.
-use Rattle.std.proofs.Common.{◌≡◌, ℕ, zero, suc, ◌+◌, ◌<◌, List, [], ◌∷◌, ◌++◌, length, get_or, set, Bool, true, false, ◌&&◌, not, refl, sym, ap, subst, ◌∙◌, arith, inl, inr}
+use Rattle.std.proofs.Common.{◌≡◌, ℕ, ◌+◌, ◌<◌, List, [], ◌∷◌, ◌++◌, length, get_or, set, Bool, true, false, not, refl, sym, ap, subst, ◌∙◌, arith, inl, inr}
 use Rattle.std.specs.Prelude.{All, AllPairs, Contains, IsPermutation, if◌then◌else◌}
 use Rattle.std.specs.List.{filter, sum_by}
-use Rattle.std.proofs.lemmas.Bool.{cases_eq, both_ways, eq-eqb, ne_eqb, or_parts}
-use Rattle.std.proofs.lemmas.List.Elements.{All-head, All-tail}
+use Rattle.std.proofs.lemmas.Bool.{cases_eq, eq-eqb, ne_eqb}
+use Rattle.std.proofs.lemmas.List.{get_or_default}
+use Rattle.std.proofs.lemmas.List.Elements.{All-head, All-tail, All-contains}
 use Rattle.std.proofs.lemmas.List.Sorted.{length_permutation, sum_by-IsPermutation}
 use Rattle.std.proofs.lemmas.List.Sums.{sum_by-cons, sum_by_push, sum_by-set}
-use Rattle.vk_model.specs.Memory.Suballocation.{Taken, Request, IsApart, taken_at, ranges_meet, same_kind, share_page}
+use Rattle.vk_model.specs.Memory.Suballocation.{Taken, Request, IsApart, taken_at}
 use Rattle.vk_model.specs.Memory.Room.{Block, General, Stack, is_none_left}
 use Rattle.vk_model.specs.Memory.MoveTargets.{BlockStart, Numbered}
 use Rattle.vk_model.specs.Memory.LinearBlocks.{others}
 use Rattle.vk_model.specs.Memory.Pools.{PoolBlock, Pool, Gives, block_taken, block_with, block_without, in_block, pool_with, pool_without, has_some_taken, numbered_blocks, new_block, IsSoundBlock, IsPool}
 use Rattle.vk_model.proofs.Lists.Members.{contains-cons}
+use Rattle.vk_model.proofs.Memory.AllPairs.{pairs_first, pairs_rest}
+use Rattle.vk_model.proofs.Memory.Freeing.{not_together}
 use Rattle.vk_model.proofs.Memory.Ranges.{none_left}
 use Rattle.vma_pools.specs.Alike.{IsAlikePool}
 use Rattle.vma_pools.specs.Ranges.{HasRange}
@@ -19,7 +22,6 @@ use Rattle.vma_pools.specs.Inner.Walk.{no_block}
 use Rattle.vma_pools.specs.Inner.Lower.{ranges_of}
 use Rattle.vma_pools.proofs.PoolLemmas.{in_block-set}
 use Rattle.vma_pools.proofs.RangesAlike.{sums-alike}
-use Rattle.vma_pools.proofs.StateLemmas.{start-meets}
 use Rattle.vma_blocks.proofs.AlikeLemmas.{alike-taken}
 use Rattle.vma_pools.proofs.RangeLemmas.{Place, NewBlock, OldBlock, given-place, given-permuted, freed-taken, new-is, old-is, old-number, none-new, new-sound, fresh}
 
@@ -39,17 +41,6 @@ count-bytes = record { none = refl; one = λ t ts. sum_by-cons (λ t. t.size) t 
 
 -- ---- one block without the range at a start
 
-not-together : (t u : Taken) → 0 < t.size → 0 < u.size → IsApart t u → t.start ≡ u.start → ⊥
-not-together t u some few apart same =
-    let none = (or_parts (ranges_meet t.start t.size u.start u.size) (not (same_kind t.kind u.kind) && share_page t.start t.size u.start u.size) apart).0 in
-    both_ways (ranges_meet t.start t.size u.start u.size) none (subst (λ (n : ℕ). ranges_meet t.start t.size n u.size ≡ true) same (start-meets t.start t.size u.size some few))
-
-apart-first : (t : Taken) (ts : List Taken) → AllPairs IsApart (t ∷ ts) → All (IsApart t) ts
-apart-first t ts h k d lt = h 0 (suc k) d (omega arith) (omega (arith, lt))
-
-apart-rest : (t : Taken) (ts : List Taken) → AllPairs IsApart (t ∷ ts) → AllPairs IsApart ts
-apart-rest t ts h i j d less lt = h (suc i) (suc j) d (omega (arith, less)) (omega (arith, lt))
-
 abbrev Sized : List Taken → Type 0
 Sized ts = All (λ t. 0 < t.size) ts
 
@@ -64,12 +55,12 @@ module _ (start : ℕ) where
   all-kept : (t : Taken) → t.start ≡ start → 0 < t.size → (ts : List Taken) → Sized ts → All (IsApart t) ts → others start ts ≡ ts
   all-kept t here some [] sized apart = refl
   all-kept t here some (u ∷ us) sized apart =
-      kept-one u us (λ same. not-together t u some (All-head (λ v. 0 < v.size) u us sized) (All-head (IsApart t) u us apart) (here ∙ sym same))
+      kept-one u us (λ same. not_together t u some (All-head (λ v. 0 < v.size) u us sized) (All-head (IsApart t) u us apart) (here ∙ sym same))
       ∙ ap (λ l. u ∷ l) (all-kept t here some us (All-tail (λ v. 0 < v.size) u us sized) (All-tail (IsApart t) u us apart))
 
   in-none : (t u : Taken) → u.start ≡ start → 0 < u.size → (ts : List Taken) → Sized ts → All (IsApart u) ts → Contains ts t → t.start ≡ start → ⊥
   in-none t u here some ts sized apart c same =
-      not-together u t some (subst (λ (v : Taken). 0 < v.size) c.2 (sized c.0 t c.1)) (subst (λ (v : Taken). IsApart u v) c.2 (apart c.0 t c.1)) (here ∙ sym same)
+      not_together u t some (subst (λ (v : Taken). 0 < v.size) c.2 (sized c.0 t c.1)) (subst (λ (v : Taken). IsApart u v) c.2 (apart c.0 t c.1)) (here ∙ sym same)
 
   module _ (f : Taken → ℕ) (g : List Taken → ℕ) (counts : IsCount f g) where
     others-count : (ts : List Taken) → Sized ts → AllPairs IsApart ts → (t : Taken) → Contains ts t → t.start ≡ start → g (others start ts) + f t ≡ g ts
@@ -78,12 +69,12 @@ module _ (start : ℕ) where
         let some = All-head (λ v. 0 < v.size) u us sized in let few = All-tail (λ v. 0 < v.size) u us sized in
         elim (cases_eq u.start start) [
           | inl here ↦ elim (contains-cons u us t c) [
-            | inl is ↦ (let e = ap g (left-one u us here ∙ all-kept u here some us few (apart-first u us pairs)) in let o = counts.one u us in let w = ap f is in omega (arith, e, o, w))
-            | inr rest ↦ absurd (in-none t u here some us few (apart-first u us pairs) rest same)
+            | inl is ↦ (let e = ap g (left-one u us here ∙ all-kept u here some us few (pairs_first IsApart u us pairs)) in let o = counts.one u us in let w = ap f is in omega (arith, e, o, w))
+            | inr rest ↦ absurd (in-none t u here some us few (pairs_first IsApart u us pairs) rest same)
           ]
           | inr other ↦ elim (contains-cons u us t c) [
             | inl is ↦ absurd (other (ap (λ (v : Taken). v.start) is ∙ same))
-            | inr rest ↦ (let e = ap g (kept-one u us other) in let a = counts.one u (others start us) in let b = counts.one u us in let i = others-count us few (apart-rest u us pairs) t rest same in omega (arith, e, a, b, i))
+            | inr rest ↦ (let e = ap g (kept-one u us other) in let a = counts.one u (others start us) in let b = counts.one u us in let i = others-count us few (pairs_rest IsApart u us pairs) t rest same in omega (arith, e, a, b, i))
           ]
         ]
 
@@ -92,14 +83,6 @@ module _ (start : ℕ) where
 block-apart : (k : Block) → IsSoundBlock k → Sized (block_taken k) × AllPairs IsApart (block_taken k)
 block-apart (General size taken) sound = (sound.0, sound.1.apart)
 block-apart (Stack b) sound = (sound.sized, sound.sound.apart)
-
-all-in : {A : Type 0} (P : A → Type 0) (xs : List A) (x : A) → All P xs → Contains xs x → P x
-all-in P xs x all c = subst P c.2 (all c.0 x c.1)
-
-at-default : {A : Type 0} (xs : List A) (k : ℕ) (d e : A) → k < length xs → get_or xs k d ≡ get_or xs k e
-at-default [] k d e lt = absurd (omega (arith, lt))
-at-default (x ∷ xs) zero d e lt = refl
-at-default (x ∷ xs) (suc k) d e lt = at-default xs k d e (omega (arith, lt))
 
 module _ (f : Taken → ℕ) (g : List Taken → ℕ) (counts : IsCount f g) where
   abbrev of_block : PoolBlock → ℕ
@@ -120,7 +103,7 @@ module _ (f : Taken → ℕ) (g : List Taken → ℕ) (counts : IsCount f g) whe
   one-changed : (bs : List PoolBlock) → AllPairs (λ b c. b.number < c.number) bs → (change : Block → Block) (b : PoolBlock) → Contains bs b
       → sum_by of_block (in_block change b.number bs) + of_block b ≡ sum_by of_block bs + g (block_taken (change b.block))
   one-changed bs rising change b c =
-      let here : get_or bs c.0 no_block ≡ b = at-default bs c.0 no_block b c.1 ∙ c.2 in
+      let here : get_or bs c.0 no_block ≡ b = get_or_default bs c.0 no_block b c.1 ∙ c.2 in
       let is : in_block change b.number bs ≡ set bs c.0 (record b { block = change b.block }) =
       ap (λ (n : ℕ). in_block change n bs) (ap (λ (d : PoolBlock). d.number) (sym here)) ∙ in_block-set change bs c.0 rising c.1 ∙ ap (λ (d : PoolBlock). set bs c.0 (record d { block = change d.block })) here in
       ap (λ l. sum_by of_block l + of_block b) is ∙ ap (λ (d : PoolBlock). sum_by of_block (set bs c.0 (record b { block = change b.block })) + of_block d) (sym here)
@@ -156,7 +139,7 @@ module _ (f : Taken → ℕ) (g : List Taken → ℕ) (counts : IsCount f g) whe
             omega (arith, e, w, none, unnumbered p.blocks)
         go (OldBlock b at number gave) =
             let e = ap pool_count (old-is p h r some upper s gives (old-number p h r some upper s gives b at number)) ∙ unnumbered (in_block change s.block p.blocks) ∙ ap (λ (n : ℕ). sum_by of_block (in_block change n p.blocks)) (sym number) in
-            let w = with-one b.block (given-permuted b.block r upper s.start (all-in (λ b. IsSoundBlock b.block) p.blocks b h.sound at) gave) in
+            let w = with-one b.block (given-permuted b.block r upper s.start (All-contains (λ b. IsSoundBlock b.block) p.blocks b h.sound at) gave) in
             let o = one-changed p.blocks h.rising change b at in
             omega (arith, e, w, o, unnumbered p.blocks)
 
@@ -168,7 +151,7 @@ module _ (f : Taken → ℕ) (g : List Taken → ℕ) (counts : IsCount f g) whe
         let b = has.block in
         let e = unnumbered (filter has_some_taken (in_block without s.block p.blocks)) ∙ filtered-count (in_block without s.block p.blocks) ∙ ap (λ (n : ℕ). sum_by of_block (in_block without n p.blocks)) (sym has.number) in
         let o = one-changed p.blocks h.rising without b has.there in
-        let apart = block-apart b.block (all-in (λ b. IsSoundBlock b.block) p.blocks b h.sound has.there) in
+        let apart = block-apart b.block (All-contains (λ b. IsSoundBlock b.block) p.blocks b h.sound has.there) in
         let w = ap g (freed-taken b.block s.start) in
         let l = others-count s.start f g counts (block_taken b.block) apart.0 apart.1 t has.range starts in
         omega (arith, e, o, w, l, unnumbered p.blocks)

@@ -37,7 +37,7 @@ given-blocks p r upper s = go (s.block == p.next)
     go true = let l = length-append p.blocks (record { number = p.next; block = block_with (new_block p.info) r upper s.start } ∷ []) in omega (arith, l)
     go false = let l = same-blocks (λ k. block_with k r upper s.start) s.block p.blocks in omega (arith, l)
 
-old-blocks : (p : Pool) (r : Request) (upper : Bool) (s : BlockStart) → s.block < p.next → length (pool_with p r upper s).blocks ≡ length p.blocks
+pub old-blocks : (p : Pool) (r : Request) (upper : Bool) (s : BlockStart) → s.block < p.next → length (pool_with p r upper s).blocks ≡ length p.blocks
 old-blocks p r upper s low =
     ap (λ (v : Bool). length (if v then record p { blocks = p.blocks ++ record { number = p.next; block = block_with (new_block p.info) r upper s.start } ∷ []; next = p.next + 1 }
     else record p { blocks = in_block (λ k. block_with k r upper s.start) s.block p.blocks }).blocks) (ne_eqb s.block p.next (λ e. omega (arith, low, e)))

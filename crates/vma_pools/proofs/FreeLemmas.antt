@@ -4,7 +4,7 @@ use Rattle.std.proofs.lemmas.Bool.{cases_lt}
 use Rattle.std.specs.Prelude.{All, AllPairs, Any, if◌then◌else◌, IsTrue}
 use Rattle.std.specs.List.{filter}
 use Rattle.std.proofs.lemmas.List.Elements.{All-head, All-tail}
-use Rattle.std.proofs.lemmas.List.{length-map, map-set, get_or-set_same}
+use Rattle.std.proofs.lemmas.List.{length-map, map-set, get_or-set_same, get_or_default}
 use Rattle.std.proofs.Math.Seq.{map-set_same}
 use Rattle.vk_model.specs.declared.resource.PoolInfo.{PoolInfo}
 use Rattle.vma_pools.specs.Pools.{Kept, Loses, LosesOne, KeepsBlocks, block_numbers}
@@ -48,16 +48,11 @@ none-kept (b ∷ bs) (suc i) n lt all e =
 
 -- ---- where the block of a number is
 
-default-free : {A : Type 0} (xs : List A) (k : ℕ) (d e : A) → k < length xs → get_or xs k d ≡ get_or xs k e
-default-free [] k d e lt = absurd (omega (arith, lt))
-default-free (x ∷ xs) zero d e lt = refl
-default-free (x ∷ xs) (suc k) d e lt = default-free xs k d e (omega (arith, lt))
-
 module _ {B : Type 0} (xs : List (Held B)) (n : ℕ) (rising : AllPairs (λ a b. a.number < b.number) xs) (m : ℕ) (x : Held B) (within : m < length xs) where
   -- it is after one with a lower number
   pub after-lower : (get_or xs m x).number < n → (k : ℕ) (d : Held B) → k < length xs → (get_or xs k d).number ≡ n → m < k
   after-lower low k d lt e =
-      let same : (get_or xs k d).number ≡ (get_or xs k x).number = ap (λ (h : Held B). h.number) (default-free xs k d x lt) in
+      let same : (get_or xs k d).number ≡ (get_or xs k x).number = ap (λ (h : Held B). h.number) (get_or_default xs k d x lt) in
       elim (cases_lt m k) [
         | inl l ↦ l
         | inr g ↦ elim (cases_lt k m) [
@@ -70,7 +65,7 @@ module _ {B : Type 0} (xs : List (Held B)) (n : ℕ) (rising : AllPairs (λ a b.
   -- it is not after one with a number that isn't lower
   pub not-after : n ≤ (get_or xs m x).number → (k : ℕ) (d : Held B) → k < length xs → (get_or xs k d).number ≡ n → k ≤ m
   not-after high k d lt e =
-      let same : (get_or xs k d).number ≡ (get_or xs k x).number = ap (λ (h : Held B). h.number) (default-free xs k d x lt) in
+      let same : (get_or xs k d).number ≡ (get_or xs k x).number = ap (λ (h : Held B). h.number) (get_or_default xs k d x lt) in
       elim (cases_lt m k) [ inl l ↦ absurd (omega (arith, rising m k x l lt, high, e, same)) | inr g ↦ g ]
 
 -- ---- what is seen of the blocks that are held
@@ -104,7 +99,7 @@ pub taken-there : {B : Type 0} (block : B → Block) (xs : List (Held B)) (s : B
     → Any (λ b. (b.number ≡ s.block) × IsTakenAt s.start (block_taken b.block)) (seen block xs) → IsTakenAt s.start (block_taken (block (get_or xs i d).block))
 taken-there block xs s i d rising lt e any =
     let a = any-held (λ b. (b.number ≡ s.block) × IsTakenAt s.start (block_taken b.block)) (numbered block) xs any in
-    let there : get_or xs a.0 d ≡ a.1 = default-free xs a.0 d a.1 a.2 ∙ a.3 in
+    let there : get_or xs a.0 d ≡ a.1 = get_or_default xs a.0 d a.1 a.2 ∙ a.3 in
     let k : a.0 ≡ i = same-index xs s.block a.0 i d rising a.2 lt (ap (λ (h : Held _). h.number) there ∙ a.4.0) e in
     subst (λ (h : Held _). IsTakenAt s.start (block_taken (block h.block))) (sym there ∙ ap (λ (j : ℕ). get_or xs j d) k) a.4.1
 

@@ -66,11 +66,6 @@ strictly a b (inr same) apart = elim (cases_eq a.place.start b.place.start) [
 
 -- ---- from the highest down
 
-at-default : {A : Type 0} (xs : List A) (k : ℕ) (d e : A) → k < length xs → get_or xs k d ≡ get_or xs k e
-at-default [] k d e lt = absurd (omega (arith, lt))
-at-default (x ∷ xs) zero d e lt = refl
-at-default (x ∷ xs) (suc k) d e lt = at-default xs k d e (omega (arith, lt))
-
 pairs-mapped : {A C : Type 0} (R : C → C → Type 0) (f : A → C) (xs : List A) → AllPairs (λ x y. R (f x) (f y)) xs → AllPairs R (map f xs)
 pairs-mapped R f [] pairs i j d less lt = absurd (omega (arith, lt))
 pairs-mapped R f (x ∷ xs) pairs i j d less lt =

@@ -1,8 +1,9 @@
 -- Pools and allocations stay as they always are when a place is reserved for one.
-use Rattle.std.proofs.Common.{◌≡◌, ℕ, ◌+◌, ◌<◌, ◌≤◌, List, [], ◌∷◌, ◌++◌, set, Bool, true, false, Option, Some, None, refl, sym, ap, subst, ◌∙◌, arith, inl, inr, ◌⊎◌}
-use Rattle.std.specs.Prelude.{All, Contains, unwrap_or, if◌then◌else◌}
+use Rattle.std.proofs.Common.{◌≡◌, ℕ, ◌+◌, ◌<◌, ◌≤◌, [], ◌∷◌, ◌++◌, set, Bool, true, false, Option, Some, None, refl, sym, ap, subst, ◌∙◌, arith, inl, inr, ◌⊎◌}
+use Rattle.std.specs.Prelude.{Contains, unwrap_or, if◌then◌else◌}
 use Rattle.std.proofs.lemmas.Bool.{cases_eq, ne_eqb}
 use Rattle.std.proofs.lemmas.List.{length-set}
+use Rattle.std.proofs.lemmas.List.Elements.{All-contains}
 use Rattle.vk_model.specs.Memory.Suballocation.{Taken, Request, IsRequest}
 use Rattle.vk_model.specs.Memory.Room.{Block, General, Stack}
 use Rattle.vk_model.specs.Memory.MoveTargets.{BlockStart}
@@ -20,19 +21,16 @@ use Rattle.vma_pools.proofs.NumberLemmas.{at-below, at-set, at-other}
 use Rattle.vma_pools.proofs.StateLemmas.{some-is, more-places, taken-fine}
 use Rattle.vma_pools.proofs.EndedLemmas.{other-held, from-other}
 
-all-in : {A : Type 0} (P : A → Type 0) (xs : List A) (x : A) → All P xs → Contains xs x → P x
-all-in P xs x all c = subst P c.2 (all c.0 x c.1)
-
 -- a range of a pool ends in its block
 pub range-inside : (k : Kept) → IsKeptPool k.pool → (n : ℕ) (t : Taken) → HasRange k.pool n t → t.start + t.size ≤ k.pool.info.block_size
 range-inside k h n t has =
-    let sound = all-in (λ b. IsSoundBlock b.block) k.pool.blocks has.block h.pool.sound has.there in
-    let bytes = (all-in (λ b. IsOfPool k.pool.info b.block) k.pool.blocks has.block h.kinds has.there).bytes in
+    let sound = All-contains (λ b. IsSoundBlock b.block) k.pool.blocks has.block h.pool.sound has.there in
+    let bytes = (All-contains (λ b. IsOfPool k.pool.info b.block) k.pool.blocks has.block h.kinds has.there).bytes in
     let low = inside has.block.block sound has.range in omega (arith, low, bytes)
   where
     inside : (b : Block) → IsSoundBlock b → Contains (block_taken b) t → t.start + t.size ≤ block_bytes b
-    inside (General size taken) sound c = all-in (λ (t : Taken). t.start + t.size ≤ size) taken t sound.1.inside c
-    inside (Stack b) sound c = all-in (λ (t : Taken). t.start + t.size ≤ b.size) (block_taken (Stack b)) t sound.sound.inside c
+    inside (General size taken) sound c = All-contains (λ (t : Taken). t.start + t.size ≤ size) taken t sound.1.inside c
+    inside (Stack b) sound c = All-contains (λ (t : Taken). t.start + t.size ≤ b.size) (block_taken (Stack b)) t sound.sound.inside c
 
 same-next : (p : Pool) (r : Request) (upper : Bool) (s : BlockStart) → s.block < p.next → (pool_with p r upper s).next ≡ p.next
 same-next p r upper s low =

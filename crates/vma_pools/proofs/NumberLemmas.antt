@@ -1,6 +1,7 @@
 -- Lists of what is numbered, where none stands for what has ended.
 use Rattle.std.proofs.Common.{◌≡◌, ℕ, zero, suc, ◌<◌, List, [], ◌∷◌, ◌++◌, length, set, Option, Some, None, refl, sym, ap, ◌∙◌, arith, inl, inr, ◌⊎◌}
 use Rattle.std.specs.Prelude.{IsSome, slice_index_or}
+use Rattle.std.proofs.lemmas.List.{get_or_default}
 
 -- what is at a number when one more was put behind
 pub at-more : {A : Type 0} (xs : List (Option A)) (y : Option A) (p : ℕ) (k : A) → slice_index_or (xs ++ y ∷ []) p None ≡ Some k → (slice_index_or xs p None ≡ Some k) ⊎ ((p ≡ length xs) × (y ≡ Some k))
@@ -40,12 +41,7 @@ at-other (x ∷ xs) (suc i) (suc p) v other = at-other xs i p v (λ e. other (ap
 
 -- what is found at a number that is one of the list's
 pub found-at : {A : Type 0} (xs : List (Option A)) (p : ℕ) (o : Option A) (x : A) → p < length xs → o ≡ slice_index_or xs p o → o ≡ Some x → slice_index_or xs p None ≡ Some x
-found-at xs p o x lt is some = default-free xs p None o lt ∙ sym is ∙ some
-  where
-    default-free : {A : Type 0} (xs : List A) (k : ℕ) (d e : A) → k < length xs → slice_index_or xs k d ≡ slice_index_or xs k e
-    default-free [] k d e lt = absurd (omega (arith, lt))
-    default-free (x ∷ xs) zero d e lt = refl
-    default-free (x ∷ xs) (suc k) d e lt = default-free xs k d e (omega (arith, lt))
+found-at xs p o x lt is some = get_or_default xs p None o lt ∙ sym is ∙ some
 
 pub some-below : {A : Type 0} (xs : List (Option A)) (p : ℕ) → IsSome (slice_index_or xs p None) → p < length xs
 some-below xs p h = go xs (slice_index_or xs p None) refl h

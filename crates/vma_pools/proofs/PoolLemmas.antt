@@ -9,6 +9,7 @@ use Rattle.vk_model.specs.Memory.Suballocation.{Request}
 use Rattle.vk_model.specs.Memory.Room.{Block, BlockHolds}
 use Rattle.vk_model.specs.Memory.MoveTargets.{BlockStart}
 use Rattle.vk_model.specs.Memory.Pools.{PoolBlock, Pool, BlockGives, GivesFrom, Gives, IsPool, block_with, with_change, in_block, pool_with, new_block}
+use Rattle.vk_model.proofs.Memory.AllPairs.{pairs_first, pairs_rest}
 use Rattle.vma_blocks.specs.Alike.{IsAlike}
 use Rattle.vma_pools.specs.Alike.{AreAlike, IsAlikePool}
 use Rattle.vma_pools.proofs.PoolAlike.{are-refl, are-length, are-at, are-appended}
@@ -17,12 +18,6 @@ use Rattle.vma_pools.specs.declared.blocks.Held.{Held}
 use Rattle.vma_pools.specs.Inner.Walk.{numbered, seen, objects, kept_of, no_block, block_at, NoneBefore, IsTaken}
 use Rattle.vk_memory.specs.MemoryState.{MemoryState, fresh}
 use Rattle.vma_pools.proofs.WalkLemmas.{get_or-map-in}
-
-pairs_first : {A : Type 0} (R : A → A → Type 0) (x : A) (xs : List A) → AllPairs R (x ∷ xs) → All (R x) xs
-pairs_first R x xs h k d lt = h 0 (suc k) d (omega arith) (omega (arith, lt))
-
-pairs_rest : {A : Type 0} (R : A → A → Type 0) (x : A) (xs : List A) → AllPairs R (x ∷ xs) → AllPairs R xs
-pairs_rest R x xs h i j d less lt = h (suc i) (suc j) d (omega (arith, less)) (omega (arith, lt))
 
 abbrev Rises : PoolBlock → PoolBlock → Type 0
 Rises b c = b.number < c.number

@@ -1,20 +1,20 @@
 -- Which ranges are taken in a pool when one more is, and when one is given back.
-use Rattle.std.proofs.Common.{◌≡◌, ℕ, ◌+◌, ◌<◌, ◌≤◌, List, [], ◌∷◌, ◌++◌, length, Bool, true, false, ◌==◌, not, zero, suc, refl, sym, ap, subst, ◌∙◌, arith, inl, inr, ◌⊎◌}
-use Rattle.std.specs.Prelude.{All, AllPairs, Contains, IsPermutation, IsTrue, if◌then◌else◌, slice_index_or}
-use Rattle.std.proofs.lemmas.List.Elements.{All-nil, filter-append, Contains-append_left, Contains-append_right, Contains-append_cases}
-use Rattle.std.proofs.lemmas.List.{append-nil}
+use Rattle.std.proofs.Common.{◌≡◌, ℕ, ◌+◌, ◌<◌, ◌≤◌, List, [], ◌∷◌, ◌++◌, length, Bool, true, false, ◌==◌, not, refl, sym, ap, subst, ◌∙◌, arith, inl, inr, ◌⊎◌}
+use Rattle.std.specs.Prelude.{AllPairs, Contains, IsPermutation, IsTrue, if◌then◌else◌, slice_index_or}
+use Rattle.std.proofs.lemmas.List.Elements.{All-nil, filter-append, Contains-append_left, Contains-append_right, Contains-append_cases, All-contains}
+use Rattle.std.proofs.lemmas.List.{get_or_default}
 use Rattle.std.proofs.lemmas.List.Sorted.{Contains-permutation, IsPermutation-refl, IsPermutation-sym}
 use Rattle.std.proofs.lemmas.Bool.{cases_lt, both_ways, eqb-true, eq-eqb, ne_eqb, not-true, not_from_false}
 use Rattle.vk_model.specs.declared.resource.PoolKind.{PoolKind}
 use Rattle.vk_model.specs.declared.resource.PoolKind.TheVariants as algorithm
 use Rattle.vk_model.specs.Memory.Suballocation.{Taken, Request, IsApart, IsSound, taken_at}
-use Rattle.vk_model.specs.Memory.Room.{Block, General, Stack, Linear, all_taken, is_none_left}
+use Rattle.vk_model.specs.Memory.Room.{Block, General, Stack, all_taken, is_none_left}
 use Rattle.vk_model.specs.Memory.MoveTargets.{BlockStart}
-use Rattle.vk_model.specs.Memory.LinearBlocks.{lower_from_wrapped, others}
+use Rattle.vk_model.specs.Memory.LinearBlocks.{others}
 use Rattle.vk_model.specs.Memory.Pools.{PoolBlock, Pool, block_bytes, block_taken, empty_block, new_block, BlockGives, GivesFrom, Gives, block_with, with_change, in_block, pool_with, block_without, has_some_taken, pool_without, IsSoundBlock, IsPool}
 use Rattle.vk_model.proofs.Lists.Members.{none_in, contains-cons, contains-head, contains-tail, filtered, filter_has, map_has, mapped_from}
 use Rattle.vk_model.proofs.Memory.Taken.{apart_turned, fitting}
-use Rattle.vk_model.proofs.Memory.Ranges.{none_left}
+use Rattle.vk_model.proofs.Memory.Freeing.{round_taken}
 use Rattle.vk_model.proofs.Memory.LinearBlocks.{linear_takes, linear_stays}
 use Rattle.vma_pools.specs.Ranges.{HasRange}
 
@@ -26,29 +26,18 @@ given-permuted (General size taken) r upper start sound gives = IsPermutation-re
 given-permuted (Stack b) r true start sound gives = ((linear_takes.upper b r sound).taken start gives).added
 given-permuted (Stack b) r false start sound gives = ((linear_takes.lower b r sound).taken start gives).added
 
-all-in : {A : Type 0} (P : A → Type 0) (xs : List A) (x : A) → All P xs → Contains xs x → P x
-all-in P xs x all c = subst P c.2 (all c.0 x c.1)
-
 -- the new range conflicts with none that was taken
 given-apart : (k : Block) (r : Request) (upper : Bool) (start : ℕ) (t : Taken) → IsSoundBlock k → BlockGives k r upper start → Contains (block_taken k) t → IsApart (taken_at start r) t
-given-apart (General size taken) r upper start t sound gives c = all-in (IsApart (taken_at start r)) taken t (fitting taken r 0 size start gives).apart c
-given-apart (Stack b) r true start t sound gives c = all-in (IsApart (taken_at start r)) (all_taken b) t (fitting (all_taken b) r 0 b.size start ((linear_takes.upper b r sound).fitting start gives)).apart c
-given-apart (Stack b) r false start t sound gives c = all-in (IsApart (taken_at start r)) (all_taken b) t (fitting (all_taken b) r 0 b.size start ((linear_takes.lower b r sound).fitting start gives)).apart c
-
--- what went round becomes the lower stack where nothing is left of that
-round-taken : (b : Linear) → all_taken (lower_from_wrapped b) ≡ all_taken b
-round-taken b = go (is_none_left b.lower) refl
-  where
-    go : (c : Bool) → is_none_left b.lower ≡ c → all_taken (if c then record b { lower = b.wrapped; wrapped = [] } else b) ≡ all_taken b
-    go true e = ap (λ ts. ts ++ b.upper) (append-nil b.wrapped) ∙ ap (λ ts. (ts ++ b.wrapped) ++ b.upper) (sym (none_left b.lower e))
-    go false e = refl
+given-apart (General size taken) r upper start t sound gives c = All-contains (IsApart (taken_at start r)) taken t (fitting taken r 0 size start gives).apart c
+given-apart (Stack b) r true start t sound gives c = All-contains (IsApart (taken_at start r)) (all_taken b) t (fitting (all_taken b) r 0 b.size start ((linear_takes.upper b r sound).fitting start gives)).apart c
+given-apart (Stack b) r false start t sound gives c = All-contains (IsApart (taken_at start r)) (all_taken b) t (fitting (all_taken b) r 0 b.size start ((linear_takes.lower b r sound).fitting start gives)).apart c
 
 -- what is left of a block is what doesn't start there
 pub freed-taken : (k : Block) (start : ℕ) → block_taken (block_without k start) ≡ others start (block_taken k)
 freed-taken (General size taken) start = refl
 freed-taken (Stack b) start =
     let p = λ (t : Taken). not (t.start == start) in
-    round-taken (record b { lower = others start b.lower; wrapped = others start b.wrapped; upper = others start b.upper })
+    round_taken (record b { lower = others start b.lower; wrapped = others start b.wrapped; upper = others start b.upper })
     ∙ sym (filter-append p (b.lower ++ b.wrapped) b.upper ∙ ap (λ ts. ts ++ others start b.upper) (filter-append p b.lower b.wrapped))
 
 -- ---- one block of a pool, changed
@@ -84,20 +73,15 @@ module _ (blocks : List PoolBlock) (rising : AllPairs (λ b c. b.number < c.numb
         | inl l ↦ absurd (less b c at.0 to.0 at.2 to.2 l to.1 same)
         | inr g ↦ elim (cases_lt to.0 at.0) [
           | inl l ↦ absurd (less c b to.0 at.0 to.2 at.2 l at.1 (sym same))
-          | inr h ↦ let here : at.0 ≡ to.0 = omega (arith, g, h) in sym at.2 ∙ ap (λ (k : ℕ). slice_index_or blocks k b) here ∙ default-free blocks to.0 b c to.1 ∙ to.2
+          | inr h ↦ let here : at.0 ≡ to.0 = omega (arith, g, h) in sym at.2 ∙ ap (λ (k : ℕ). slice_index_or blocks k b) here ∙ get_or_default blocks to.0 b c to.1 ∙ to.2
         ]
       ]
     where
-      default-free : (xs : List PoolBlock) (k : ℕ) (d e : PoolBlock) → k < length xs → slice_index_or xs k d ≡ slice_index_or xs k e
-      default-free [] k d e lt = absurd (omega (arith, lt))
-      default-free (x ∷ xs) zero d e lt = refl
-      default-free (x ∷ xs) (suc k) d e lt = default-free xs k d e (omega (arith, lt))
-
       less : (x y : PoolBlock) (i j : ℕ) → slice_index_or blocks i x ≡ x → slice_index_or blocks j y ≡ y → i < j → j < length blocks → x.number ≡ y.number → ⊥
       less x y i j ex ey lt within e =
           let r = rising i j x lt within in
           let fx = ap (λ (b : PoolBlock). b.number) ex in
-          let fy = ap (λ (b : PoolBlock). b.number) (default-free blocks j x y within ∙ ey) in
+          let fy = ap (λ (b : PoolBlock). b.number) (get_or_default blocks j x y within ∙ ey) in
           omega (arith, r, fx, fy, e)
 
 -- ---- a pool that gives a request a place
@@ -132,7 +116,7 @@ module _ (p : Pool) (h : IsPool p) (r : Request) (some : 0 < r.size) (upper : Bo
   old-is other = ap (λ (v : Bool). if v then record p { blocks = p.blocks ++ fresh ∷ []; next = p.next + 1 } else record p { blocks = in_block change s.block p.blocks }) (ne_eqb s.block p.next other)
 
   pub old-number : (b : PoolBlock) → Contains p.blocks b → b.number ≡ s.block → s.block ≡ p.next → ⊥
-  old-number b at same new = omega (arith, all-in (λ b. b.number < p.next) p.blocks b h.before_next at, same, new)
+  old-number b at same new = omega (arith, All-contains (λ b. b.number < p.next) p.blocks b h.before_next at, same, new)
 
   pub none-new : (k : Block) → k ≡ new_block p.info → block_taken k ≡ []
   none-new k e = ap block_taken e ∙ empty p.info.kind
@@ -156,7 +140,7 @@ module _ (p : Pool) (h : IsPool p) (r : Request) (some : 0 < r.size) (upper : Bo
       go (NewBlock new g) = absurd (old-number has.block has.there has.number new)
       go (OldBlock b at number g) =
           let same = same-block p.blocks h.rising has.block b has.there at (has.number ∙ sym number) in
-          given-apart b.block r upper s.start u (all-in (λ b. IsSoundBlock b.block) p.blocks b h.sound at) g (subst (λ (c : PoolBlock). Contains (block_taken c.block) u) same has.range)
+          given-apart b.block r upper s.start u (All-contains (λ b. IsSoundBlock b.block) p.blocks b h.sound at) g (subst (λ (c : PoolBlock). Contains (block_taken c.block) u) same has.range)
 
   -- it is taken
   pub range-new : HasRange (pool_with p r upper s) s.block t
@@ -174,7 +158,7 @@ module _ (p : Pool) (h : IsPool p) (r : Request) (some : 0 < r.size) (upper : Bo
         there = map_has (with_change change s.block) p.blocks b at;
         number = same-number change s.block b ∙ number;
         range = subst (λ (k : Block). Contains (block_taken k) t) (sym (changed-here change s.block b number))
-            (Contains-permutation (t ∷ block_taken b.block) (block_taken (change b.block)) t (IsPermutation-sym (block_taken (change b.block)) (t ∷ block_taken b.block) (given-permuted b.block r upper s.start (all-in (λ b. IsSoundBlock b.block) p.blocks b h.sound at) g)) (contains-head t (block_taken b.block)));
+            (Contains-permutation (t ∷ block_taken b.block) (block_taken (change b.block)) t (IsPermutation-sym (block_taken (change b.block)) (t ∷ block_taken b.block) (given-permuted b.block r upper s.start (All-contains (λ b. IsSoundBlock b.block) p.blocks b h.sound at) g)) (contains-head t (block_taken b.block)));
       })
 
   -- and what was taken is
@@ -188,7 +172,7 @@ module _ (p : Pool) (h : IsPool p) (r : Request) (some : 0 < r.size) (upper : Bo
           let gave = subst (λ (c : PoolBlock). BlockGives c.block r upper s.start) (sym same) g in
           subst (λ (k : Block). Contains (block_taken k) u) (sym (changed-here change s.block has.block here))
           (Contains-permutation (t ∷ block_taken has.block.block) (block_taken (change has.block.block)) u
-          (IsPermutation-sym (block_taken (change has.block.block)) (t ∷ block_taken has.block.block) (given-permuted has.block.block r upper s.start (all-in (λ b. IsSoundBlock b.block) p.blocks has.block h.sound has.there) gave))
+          (IsPermutation-sym (block_taken (change has.block.block)) (t ∷ block_taken has.block.block) (given-permuted has.block.block r upper s.start (All-contains (λ b. IsSoundBlock b.block) p.blocks has.block h.sound has.there) gave))
           (contains-tail t (block_taken has.block.block) u has.range))
       one b at number g false e = subst (λ (c : PoolBlock). Contains (block_taken c.block) u) (sym (changed-other change s.block has.block (λ same. both_ways (has.block.number == s.block) e (eq-eqb has.block.number s.block same)))) has.range
 
@@ -232,7 +216,7 @@ module _ (p : Pool) (h : IsPool p) (r : Request) (some : 0 < r.size) (upper : Bo
               let gave = subst (λ (d : PoolBlock). BlockGives d.block r upper s.start) (sym same) g in
               let inside = subst (λ (k : Block). Contains (block_taken k) u) (ap (λ (d : PoolBlock). d.block) (sym is) ∙ changed-here change s.block c here) has.range in
               let n-is = sym has.number ∙ ap (λ (d : PoolBlock). d.number) (sym is) ∙ same-number change s.block c in
-              elim (among-taken c.block (all-in (λ b. IsSoundBlock b.block) p.blocks c h.sound there) gave inside) [
+              elim (among-taken c.block (All-contains (λ b. IsSoundBlock b.block) p.blocks c h.sound there) gave inside) [
                 | inl e ↦ inl (n-is ∙ here, e)
                 | inr old ↦ inr (record { block = c; there = there; number = sym n-is; range = old })
               ]
@@ -313,22 +297,17 @@ pub ranges-apart : (p : Pool) → IsPool p → (n : ℕ) (t u : Taken) → HasRa
 ranges-apart p h n t u a b other =
     let same = same-block p.blocks h.rising a.block b.block a.there b.there (a.number ∙ sym b.number) in
     let to = subst (λ (c : PoolBlock). Contains (block_taken c.block) u) (sym same) b.range in
-    apart-in (block_taken a.block.block) (sound-block a.block.block (all-in (λ b. IsSoundBlock b.block) p.blocks a.block h.sound a.there)).apart a.range to
+    apart-in (block_taken a.block.block) (sound-block a.block.block (All-contains (λ b. IsSoundBlock b.block) p.blocks a.block h.sound a.there)).apart a.range to
   where
     sound-block : (k : Block) → IsSoundBlock k → IsSound (block_bytes k) (block_taken k)
     sound-block (General size taken) sound = sound.1
     sound-block (Stack b) sound = sound.sound
 
-    default-free : (xs : List Taken) (k : ℕ) (d e : Taken) → k < length xs → slice_index_or xs k d ≡ slice_index_or xs k e
-    default-free [] k d e lt = absurd (omega (arith, lt))
-    default-free (x ∷ xs) zero d e lt = refl
-    default-free (x ∷ xs) (suc k) d e lt = default-free xs k d e (omega (arith, lt))
-
     apart-in : (ts : List Taken) → AllPairs IsApart ts → Contains ts t → Contains ts u → IsApart t u
     apart-in ts pairs x y = elim (cases_lt x.0 y.0) [
-      | inl l ↦ subst (λ (v : Taken). IsApart v u) x.2 (subst (λ (v : Taken). IsApart (slice_index_or ts x.0 t) v) (default-free ts y.0 t u y.1 ∙ y.2) (pairs x.0 y.0 t l y.1))
+      | inl l ↦ subst (λ (v : Taken). IsApart v u) x.2 (subst (λ (v : Taken). IsApart (slice_index_or ts x.0 t) v) (get_or_default ts y.0 t u y.1 ∙ y.2) (pairs x.0 y.0 t l y.1))
       | inr g ↦ elim (cases_lt y.0 x.0) [
-        | inl l ↦ apart_turned u t (subst (λ (v : Taken). IsApart v t) y.2 (subst (λ (v : Taken). IsApart (slice_index_or ts y.0 u) v) (default-free ts x.0 u t x.1 ∙ x.2) (pairs y.0 x.0 u l x.1)))
-        | inr e ↦ let here : x.0 ≡ y.0 = omega (arith, g, e) in absurd (other (ap (λ (v : Taken). v.start) (sym x.2 ∙ ap (λ (k : ℕ). slice_index_or ts k t) here ∙ default-free ts y.0 t u y.1 ∙ y.2)))
+        | inl l ↦ apart_turned u t (subst (λ (v : Taken). IsApart v t) y.2 (subst (λ (v : Taken). IsApart (slice_index_or ts y.0 u) v) (get_or_default ts x.0 u t x.1 ∙ x.2) (pairs y.0 x.0 u l x.1)))
+        | inr e ↦ let here : x.0 ≡ y.0 = omega (arith, g, e) in absurd (other (ap (λ (v : Taken). v.start) (sym x.2 ∙ ap (λ (k : ℕ). slice_index_or ts k t) here ∙ get_or_default ts y.0 t u y.1 ∙ y.2)))
       ]
     ]

@@ -15,10 +15,18 @@ pub struct Asked {
 /// Where an allocation lies.
 #[derive(Clone, Copy, Debug, PartialEq, Eq)]
 pub enum Home {
-    /// In a memory object of its own, of this number.
-    Own { memory: u64 },
-    /// In a pool, by its number.
-    Shared { pool: u64, place: PoolPlace },
+    /// In a memory object of its own.
+    Own {
+        /// The number of the object.
+        memory: u64,
+    },
+    /// In a pool.
+    Shared {
+        /// The number of the pool.
+        pool: u64,
+        /// The place that it has there.
+        place: PoolPlace,
+    },
 }
 
 /// An allocation, as `VmaAllocation`.

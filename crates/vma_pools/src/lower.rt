@@ -10,7 +10,7 @@ use std::alloc::AllocError;
 use vk_model::{Kind, SubFault};
 use vma_blocks::PoolBlock;
 
-/// What is to move to a lower place in a pool.
+/// What is to move to a target in a pool.
 #[derive(Clone, Copy)]
 pub(crate) struct Mover {
     /// The number of its block.

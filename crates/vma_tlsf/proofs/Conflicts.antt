@@ -2,7 +2,6 @@
 use Rattle.std.proofs.Common.{◌≡◌, ℕ, zero, suc, ◌+◌, ◌-◌, ◌/◌, ◌<◌, ◌≤◌, ◌⊎◌, inl, inr, Bool, true, false, ◌||◌, ◌&&◌, not, List, [], ◌∷◌, ◌++◌, Option, Some, refl, ap, sym, ◌∙◌, arith}
 use Rattle.std.specs.Prelude.{nat_lt, nat_le}
 use Rattle.std.specs.List.{list_any}
-use Rattle.std.proofs.Math.Bool.{and_comm}
 use Rattle.std.proofs.lemmas.List.Folds.{list_any-append}
 use Rattle.std.proofs.lemmas.Bool.{and_parts, or_parts, not-true, lt-ltb, le-ltb, le-leb, lt-leb, cases_lt}
 use Rattle.std.proofs.lemmas.Bool.Decides.{leb_tells}
@@ -12,6 +11,7 @@ use Rattle.vk_nodes.specs.declared.node.RangeState.TheVariants as state
 use Rattle.vk_model.specs.declared.resource.Kind.{Kind}
 use Rattle.vk_model.specs.declared.resource.Kind.TheVariants as kind
 use Rattle.vk_model.specs.Memory.Suballocation.{Taken, conflict, ranges_meet, share_page, same_kind}
+use Rattle.vk_model.proofs.Memory.Taken.{conflict_turned}
 use Rattle.vma_tlsf.specs.Block.{is_sound}
 use Rattle.vma_tlsf.specs.Inner.Chain.{Range, range_in, seen, taken_here, taken_by, taken_in}
 use Rattle.vma_tlsf.specs.Inner.Wants.{state_of}
@@ -33,24 +33,6 @@ and4_last false b c d e = refl
 or_true : (a b : Bool) → b ≡ true → (a || b) ≡ true
 or_true true b e = refl
 or_true false b e = e
-
-pub same_kind_turned : (k l : Kind) → same_kind k l ≡ same_kind l k
-same_kind_turned kind.Linear kind.Linear = refl
-same_kind_turned kind.Linear kind.Optimal = refl
-same_kind_turned kind.Optimal kind.Linear = refl
-same_kind_turned kind.Optimal kind.Optimal = refl
-
-four : (a b c d : Bool) → (a && b && c && d) ≡ (b && a && d && c)
-four true true c d = and_comm c d
-four true false c d = refl
-four false true c d = refl
-four false false c d = refl
-
-pub conflict_turned : (k : Kind) (a n : ℕ) (l : Kind) (b m : ℕ) → conflict k a n l b m ≡ conflict l b m k a n
-conflict_turned k a n l b m =
-    ap (λ v. v || not (same_kind k l) && share_page a n b m) (four (nat_lt 0 n) (nat_lt 0 m) (nat_lt a (b + m)) (nat_lt b (a + n)))
-    ∙ ap (λ v. ranges_meet b m a n || not v && share_page a n b m) (same_kind_turned k l)
-    ∙ ap (λ v. ranges_meet b m a n || not (same_kind l k) && v) (four (nat_lt 0 n) (nat_lt 0 m) (nat_le (a / 1024) ((b + m - 1) / 1024)) (nat_le (b / 1024) ((a + n - 1) / 1024)))
 
 -- ---- two ranges
 

@@ -10,12 +10,13 @@ use Rattle.vk_model.specs.declared.resource.Kind.{Kind}
 use Rattle.vk_model.specs.declared.resource.Kind.TheVariants as kind
 use Rattle.vk_model.specs.Memory.Suballocation.{conflict, same_kind}
 use Rattle.vk_model.specs.Memory.Room.{fits}
+use Rattle.vk_model.proofs.Memory.Taken.{conflict_turned, same_kind_turned}
 use Rattle.vma_tlsf.specs.Inner.Chain.{Range, seen, IsLinked, taken_here, taken_in}
 use Rattle.vma_tlsf.specs.Inner.Wants.{state_of}
 use Rattle.vma_tlsf.specs.Inner.Fits.{is_other, other_in, other_at, low_of, high_of, IsBlock}
 use Rattle.vma_tlsf.proofs.Splits.{some_same}
 use Rattle.vma_tlsf.proofs.Cuts.{after_not_free, before_not_free, free_takes_none}
-use Rattle.vma_tlsf.proofs.Conflicts.{kinds, third_kind, other_kind, meet_none, pages_none, no_conflict, meet_of, pages_of, conflict_turned, same_kind_turned, any_none, any_each, one_any, state_cases, both_apart}
+use Rattle.vma_tlsf.proofs.Conflicts.{kinds, third_kind, other_kind, meet_none, pages_none, no_conflict, meet_of, pages_of, any_none, any_each, one_any, state_cases, both_apart}
 
 -- ---- pages
 

@@ -1,16 +1,16 @@
 -- What is left of a block when the range at a start is given back.
-use Rattle.std.proofs.Common.{◌≡◌, ℕ, ◌<◌, ◌==◌, List, [], ◌∷◌, Bool, false, not, ◌&&◌, Option, refl, ap, sym, subst, ◌∙◌, arith}
+use Rattle.std.proofs.Common.{◌≡◌, ℕ, ◌<◌, ◌==◌, List, [], ◌∷◌, Bool, false, not, Option, refl, ap, sym, subst, ◌∙◌, arith}
 use Rattle.std.specs.Prelude.{All, IsPermutation}
 use Rattle.std.specs.List.{list_any}
 use Rattle.std.proofs.lemmas.List.Sorted.{All-permutation}
 use Rattle.std.proofs.lemmas.List.Elements.{All-nil, All-cons, All-tail, All-head}
-use Rattle.std.proofs.lemmas.Bool.{eq-eqb, eqb-true, eqb-false, or_parts, both_ways, false_from_ne_true}
+use Rattle.std.proofs.lemmas.Bool.{eq-eqb, eqb-true, eqb-false, or_parts, false_from_ne_true}
 use Rattle.vk_nodes.specs.declared.node.Node.{Node}
-use Rattle.vk_model.specs.Memory.Suballocation.{Taken, IsSound, IsApart, TakesAway, ranges_meet, share_page, same_kind}
+use Rattle.vk_model.specs.Memory.Suballocation.{Taken, IsSound, IsApart, TakesAway}
 use Rattle.vk_model.specs.Memory.LinearBlocks.{others}
-use Rattle.vk_model.proofs.World.BytePlaces.{common_meets}
 use Rattle.vk_model.proofs.Memory.AllPairs.{pairs_first}
 use Rattle.vk_model.proofs.Memory.Taken.{sound_permuted}
+use Rattle.vk_model.proofs.Memory.Freeing.{not_together}
 use Rattle.vma_tlsf.specs.Block.{Block, taken}
 use Rattle.vma_tlsf.specs.Inner.Chain.{seen, taken_in}
 use Rattle.vma_tlsf.specs.Inner.Fits.{IsBlock}
@@ -21,13 +21,6 @@ use Rattle.vma_tlsf.proofs.Longest.{clear_here}
 use Rattle.vma_tlsf.proofs.Permutations.{IsPermutation-filter}
 
 -- ---- ranges that start elsewhere
-
--- two ranges of some bytes that start together conflict
-not_together : (t u : Taken) → 0 < t.size → 0 < u.size → IsApart t u → t.start ≡ u.start → ⊥
-not_together t u some more apart same =
-    let meet = common_meets t.start t.size u.start u.size t.start (omega arith) (omega arith) (omega arith) (omega arith) in
-    let none = (or_parts (ranges_meet t.start t.size u.start u.size) (not (same_kind t.kind u.kind) && share_page t.start t.size u.start u.size) apart).0 in
-    both_ways (ranges_meet t.start t.size u.start u.size) none meet
 
 all_others : (start : ℕ) (t : Taken) (us : List Taken) → t.start ≡ start → 0 < t.size → All (λ u. 0 < u.size) us → All (IsApart t) us → others start us ≡ us
 all_others start t [] here some sized apart = refl

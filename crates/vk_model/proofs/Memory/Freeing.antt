@@ -20,7 +20,7 @@ abbrev Sized : List Taken → Type 0
 Sized ts = All (λ t. 0 < t.size) ts
 
 -- two ranges of some bytes that start together conflict
-not_together : (t u : Taken) → 0 < t.size → 0 < u.size → IsApart t u → t.start ≡ u.start → ⊥
+pub not_together : (t u : Taken) → 0 < t.size → 0 < u.size → IsApart t u → t.start ≡ u.start → ⊥
 not_together t u some more apart same =
     let meet = common_meets t.start t.size u.start u.size t.start (omega arith) (omega arith) (omega arith) (omega arith) in
     let none = (or_parts (ranges_meet t.start t.size u.start u.size) (not (same_kind t.kind u.kind) && share_page t.start t.size u.start u.size) apart).0 in
@@ -88,7 +88,7 @@ module _ (b : Linear) (none : is_none_left b.lower ≡ true) where
   turned_order : b.wrapped ++ b.lower ≡ b.wrapped
   turned_order = ap (λ ts. b.wrapped ++ ts) (none_left b.lower none) ∙ append-nil b.wrapped
 
-round_taken : (b : Linear) → all_taken (lower_from_wrapped b) ≡ all_taken b
+pub round_taken : (b : Linear) → all_taken (lower_from_wrapped b) ≡ all_taken b
 round_taken b = go (is_none_left b.lower) refl
   where
     go : (c : Bool) → is_none_left b.lower ≡ c → all_taken (if c then record b { lower = b.wrapped; wrapped = [] } else b) ≡ all_taken b

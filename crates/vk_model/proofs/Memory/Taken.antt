@@ -16,7 +16,7 @@ use Rattle.vk_model.proofs.Memory.AllPairs.{pairs_permuted, pairs_rest}
 
 -- ---- conflicts go both ways
 
-same_kind_turned : (k l : Kind) → same_kind k l ≡ same_kind l k
+pub same_kind_turned : (k l : Kind) → same_kind k l ≡ same_kind l k
 same_kind_turned kind.Linear kind.Linear = refl
 same_kind_turned kind.Linear kind.Optimal = refl
 same_kind_turned kind.Optimal kind.Linear = refl
@@ -45,7 +45,7 @@ sound_permuted size xs ys same sound = record {
   apart = pairs_permuted IsApart apart_turned xs ys same sound.apart;
 }
 
-none_all : {A : Type 0} (p : A → Bool) (xs : List A) → list_any p xs ≡ false → All (λ x. p x ≡ false) xs
+pub none_all : {A : Type 0} (p : A → Bool) (xs : List A) → list_any p xs ≡ false → All (λ x. p x ≡ false) xs
 none_all p [] none = All-from_recursion (λ x. p x ≡ false) [] tt
 none_all p (x ∷ xs) none = All-cons (λ y. p y ≡ false) x xs (or_parts (p x) (list_any p xs) none).0 (none_all p xs (or_parts (p x) (list_any p xs) none).1)
 

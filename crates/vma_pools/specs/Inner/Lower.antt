@@ -1,4 +1,4 @@
--- A walk over the blocks of a pool for a lower place.
+-- A walk over the blocks of a pool for a move target.
 use Rattle.std.specs.Prelude.{◌≡◌, ℕ, ◌<◌, List, length, get_or, set, Option, Some, None, false}
 use Rattle.vk_model.specs.Memory.Suballocation.{Request}
 use Rattle.vk_model.specs.Memory.MoveTargets.{BlockStart, Numbered, place_in}
@@ -14,11 +14,11 @@ ranges_of b = record { number = b.number; size = block_bytes b.block; taken = bl
 abbrev pub lower_in : BlockStart → Request → PoolBlock → Option BlockStart
 lower_in from r b = place_in (record { id = 0; from = from; request = r }) (ranges_of b)
 
--- No block before an index has a lower place.
+-- No block before an index has a target.
 abbrev pub NoneLower : List PoolBlock → BlockStart → Request → ℕ → Type 0
 NoneLower blocks from r i = (k : ℕ) → k < i → lower_in from r (get_or blocks k no_block) ≡ None
 
--- The block at an index is the first that has a lower place, and gave it; all blocks are alike to those where it is taken.
+-- The block at an index is the first that has a target, and gave it; all blocks are alike to those where it is taken.
 pub record IsLowerTaken (old new : List PoolBlock) (from : BlockStart) (r : Request) (i start : ℕ) : Type 0 where
   pub there : i < length old
   pub before : NoneLower old from r i

@@ -31,7 +31,7 @@ use denote.Triple.Walked.{Stays, stay_dropped, walk_of, Goes-dropped}
 use Rattle.vk_nodes.specs.Inner.Ownership.{slots_type}
 use Rattle.vk_nodes.specs.contracts.block.Block.free.{ended, clauses}
 use Rattle.vk_nodes.specs.contracts.block.Block.free.Key.{name as #self}
-use Rattle.vk_nodes.proofs.BlockValues.{block_val, block_told, lease_val, lease_told}
+use Rattle.vk_nodes.proofs.BlockValues.{block_val, block_is, lease_val, lease_is}
 use borrow.Table.OneValue.{part_out}
 use Rattle.vk_nodes.proofs.BlockRows.{Row}
 use Rattle.vk_nodes.proofs.BlockWalks.{slot_at, then_runs, out_of_block}
@@ -57,8 +57,8 @@ free_spec 𝓤 𝓛 𝓜 𝓡 wired A L g d dd met md =
     let q : Share = z.0.1.0 in
     let x = a.0 in
     let n = x.size in
-    let told = block_told x.start n vss.0 are.0.0 in
-    let fits : n < 2 ^ 64 = told.1 in
+    let is_block = block_is x.start n vss.0 are.0.0 in
+    let fits : n < 2 ^ 64 = is_block.1 in
     let lease = a.1.0 in
     let h = a.1.1.0.now in
     let handle = a.1.1.0.ref_ptr in
@@ -74,7 +74,7 @@ free_spec 𝓤 𝓛 𝓜 𝓡 wired A L g d dd met md =
     rewrite ! 0 (λ (u : A.Denot × ℕ × Ptr). ‵ (g.dealloc_token u.0 (slots_type u.1) u.2)) (λ i. (asked.0 i, asked.2 i, (asked.1 ∙ at) i)) refl $
     move ! (2 ∷ []) $ fsplit ! $ fsplit ! $ drop ! $ move ! (1 ∷ []) $ drop ! $ use1 𝓛 (‵ (seen Y κ handle h)) (id⊢ 𝓤 _) $ move ! (3 ∷ []) $ use1 𝓛 (‵ (flft κ q) ⊛ ‵ (flft z.0.0.1.0 z.0.1.1.0) ⊛ ‵ ftrue) (id⊢ 𝓤 _) $ split ! $ move ! (2 ∷ 0 ∷ []) $ join ! $ move ! (3 ∷ 2 ∷ []) $
     let y = at_gives Y 𝓛 𝓜.mem 𝓡.returns κ q handle h b o (n * 64) 8 (slots_type n) in
-    regoal ! (λ (us : List Val). prop (WpFn 𝓤 H C Λ fn us Post)) (λ i. (told.0 ∙ ap (λ (p : Ptr). block_val p n ∷ []) at) i ++ ((lease_told vss.1.0 are.1.0.0) i ++ (are.1.1.0.0 i ++ []))) refl $
+    regoal ! (λ (us : List Val). prop (WpFn 𝓤 H C Λ fn us Post)) (λ i. (is_block.0 ∙ ap (λ (p : Ptr). block_val p n ∷ []) at) i ++ ((lease_is vss.1.0 are.1.0.0) i ++ (are.1.1.0.0 i ++ []))) refl $
     enter ! C Λ fn (block_val (block_ptr b o) n ∷ lease_val ∷ vptr handle.0 handle.1 ∷ []) Post $
     alloc_all ! (λ l. pass_all ! refl ((tt, (tt, (record { fits = fits }, tt))), ((tt, (tt, tt)), ((tt, tt), tt))) $ let En : Env 𝓤 H = env fn.locals l in
     sets ! (of_opd ! (get_in ! (fld ! refl (stop !)) (sub ! 0 refl (whole !)))) refl (tt, tt) $
