@@ -1,4 +1,4 @@
--- The machine values of a block and of a lease: what is owned of their fields determines them, and is made of nothing.
+-- The machine values of a block of memory from an allocator and of a lease on it: what is owned of their fields determines them, and is made of nothing.
 use Rattle.std.proofs.Common.{◌≡◌, ℕ, ◌^◌, ◌<◌, List, [], ◌∷◌, ◌++◌, refl, ◌∙◌, w64}
 use seplogic.Ra.Ura.{Ura}
 use mir.Val.{Val, vint, vstruct, vcons, vnil, of_list}

@@ -3,6 +3,4 @@ mod ColumnLemmas
 mod StackLemmas
 mod FilledLemmas
 mod BlockRows
-mod BlockValues
-mod BlockWalks
 mod BlockCrossing
