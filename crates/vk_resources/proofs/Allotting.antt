@@ -19,7 +19,7 @@ use Rattle.vk_resources.specs.Held.{Held}
 use Rattle.vk_resources.specs.Allocating.{allotted, IsAllocated, NoRoomIsExact, Allots}
 use Rattle.vk_resources.specs.Fits.{FitsEntry}
 use Rattle.vk_resources.specs.Inner.Steps.{MemoryMade, ResourceMade, Ends, PoolMade, PoolDropped}
-use Rattle.vk_resources.proofs.Applying.{IsMaker}
+use Rattle.vk_resources.proofs.Applying.{IsCreatingEntry}
 use Rattle.vk_resources.proofs.Resting.{IsRest}
 
 -- ---- room for what an entry asks for
@@ -32,14 +32,14 @@ memory_rooms old new y i info is a made = subst (λ (x : Entry). NoRoomIsExact a
     go (applied.Bytes bytes) made = absurd made
     go applied.NoRoom made = λ d al. made.2 d al
 
-module _ (old new : Held) (x : Entry) (i : ℕ) (r : Resource) (size : ℕ) (shape : Option ImageInfo) (maker : IsMaker x i r size shape) where
+module _ (old new : Held) (x : Entry) (i : ℕ) (r : Resource) (size : ℕ) (shape : Option ImageInfo) (creating : IsCreatingEntry x i r size shape) where
   pub resource_rooms : (t : ℕ) → r.place ≡ place.Dedicated t → (a : Applied) → ResourceMade a old new i t size r.size shape → NoRoomIsExact a old x
-  resource_rooms t own applied.Done made = λ d al none. (made.0.allots d al).0 (subst (λ (q : Place). FindsNoneAt d q r) own (maker.found d none))
+  resource_rooms t own applied.Done made = λ d al none. (made.0.allots d al).0 (subst (λ (q : Place). FindsNoneAt d q r) own (creating.found d none))
   resource_rooms t own (applied.Bytes bytes) made = absurd made
-  resource_rooms t own applied.NoRoom made = λ d al. maker.finds d (subst (λ (q : Place). FindsNoneAt d q r) (sym own) (made.2 d al))
+  resource_rooms t own applied.NoRoom made = λ d al. creating.finds d (subst (λ (q : Place). FindsNoneAt d q r) (sym own) (made.2 d al))
 
   pub bound_rooms : (k o : ℕ) → r.place ≡ place.Memory k o → NoRoomIsExact applied.Done old x
-  bound_rooms k o at = λ d al none. subst (λ (q : Place). FindsNoneAt d q r) at (maker.found d none)
+  bound_rooms k o at = λ d al none. subst (λ (q : Place). FindsNoneAt d q r) at (creating.found d none)
 
 -- ---- as each entry asks
 
@@ -55,18 +55,18 @@ memory_allots old new y i info is a made = subst (λ (x : Entry). Allots a x old
 pub same_allocated : (old new : Held) (d : Allocated) → allotted new ≡ allotted old → IsAllocated old d → IsAllocated new d
 same_allocated old new d same al = subst (λ (a : Allotted). Fulfils a d) (sym same) al
 
-module _ (old new : Held) (x : Entry) (i : ℕ) (r : Resource) (size : ℕ) (shape : Option ImageInfo) (maker : IsMaker x i r size shape) where
+module _ (old new : Held) (x : Entry) (i : ℕ) (r : Resource) (size : ℕ) (shape : Option ImageInfo) (creating : IsCreatingEntry x i r size shape) where
   pub resource_allots : (t : ℕ) → r.place ≡ place.Dedicated t → (a : Applied) → ResourceMade a old new i t size r.size shape → Allots a x old new
   resource_allots t own applied.Done made = λ d al. (
     with_object i t r.size d,
-    maker.changes d (with_object i t r.size d) (subst (λ (q : Place). Gets d i r q (with_object i t r.size d)) (sym own) refl),
+    creating.changes d (with_object i t r.size d) (subst (λ (q : Place). Gets d i r q (with_object i t r.size d)) (sym own) refl),
     (made.0.allots d al).1,
   )
   resource_allots t own (applied.Bytes bytes) made = absurd made
   resource_allots t own applied.NoRoom made = λ d al. subst (λ (s : Held). IsAllocated s d) (sym made.0) al
 
   pub bound_allots : (k o : ℕ) → r.place ≡ place.Memory k o → allotted new ≡ allotted old → Allots applied.Done x old new
-  bound_allots k o at same = λ d al. (d, maker.changes d d (subst (λ (q : Place). Gets d i r q d) (sym at) refl), same_allocated old new d same al)
+  bound_allots k o at same = λ d al. (d, creating.changes d d (subst (λ (q : Place). Gets d i r q d) (sym at) refl), same_allocated old new d same al)
 
 pub bound_same : (old new : Held) → new.memory ≡ old.memory → new.backed ≡ old.backed → allotted new ≡ allotted old
 bound_same old new memory backed = rw (memory, backed) refl

@@ -188,7 +188,7 @@ memory_done old new y i info is apart a made e past m fit =
 -- ---- new buffers and images
 
 -- an entry that makes a resource, of so many bytes, and of a shape where it is an image
-pub record IsMaker (x : Entry) (i : ℕ) (r : Resource) (size : ℕ) (shape : Option ImageInfo) : Type 0 where
+pub record IsCreatingEntry (x : Entry) (i : ℕ) (r : Resource) (size : ℕ) (shape : Option ImageInfo) : Type 0 where
   pub makes : made_by x ≡ Some i
   pub ends : ended_by x ≡ []
   pub resource : resource_in x ≡ Some r
@@ -206,42 +206,42 @@ pub record IsMaker (x : Entry) (i : ℕ) (r : Resource) (size : ℕ) (shape : Op
   pub found : (d : Allocated) → FindsNoRoom d x → FindsNoneAt d r.place r
   pub changes : (d e : Allocated) → Gets d i r r.place e → Changes d x e
 
-pub buffer_maker : (i : ℕ) (b : BufferInfo) → IsMaker (entry.Buffer i b) i (of_buffer b) b.size None
-buffer_maker i b = record { makes = refl; ends = refl; resource = refl; sized = refl; image = refl; no_memory = refl; no_pool = refl; shares = refl; owns = refl; type = refl; untouched = refl; reads = λ b o n h. absurd cc; keeps = λ past c cell. refl; finds = λ d f. f; found = λ d f. f; changes = λ d e g. g }
+pub creates_buffer : (i : ℕ) (b : BufferInfo) → IsCreatingEntry (entry.Buffer i b) i (of_buffer b) b.size None
+creates_buffer i b = record { makes = refl; ends = refl; resource = refl; sized = refl; image = refl; no_memory = refl; no_pool = refl; shares = refl; owns = refl; type = refl; untouched = refl; reads = λ b o n h. absurd cc; keeps = λ past c cell. refl; finds = λ d f. f; found = λ d f. f; changes = λ d e g. g }
 
-pub image_maker : (i : ℕ) (m : ImageInfo) → IsMaker (entry.Image i m) i (of_image m) (image_size m m.tiling) (Some m)
-image_maker i m = record { makes = refl; ends = refl; resource = refl; sized = refl; image = refl; no_memory = refl; no_pool = refl; shares = refl; owns = refl; type = refl; untouched = refl; reads = λ b o n h. absurd cc; keeps = λ past c cell. refl; finds = λ d f. f; found = λ d f. f; changes = λ d e g. g }
+pub creates_image : (i : ℕ) (m : ImageInfo) → IsCreatingEntry (entry.Image i m) i (of_image m) (image_size m m.tiling) (Some m)
+creates_image i m = record { makes = refl; ends = refl; resource = refl; sized = refl; image = refl; no_memory = refl; no_pool = refl; shares = refl; owns = refl; type = refl; untouched = refl; reads = λ b o n h. absurd cc; keeps = λ past c cell. refl; finds = λ d f. f; found = λ d f. f; changes = λ d e g. g }
 
 -- what isn't held
 unheld : (h : Option caches.Held) → (IsSome h → ⊥) → h ≡ None
 unheld None none = refl
 unheld (Some v) none = absurd (none refl)
 
-module _ (old new : Held) (x : Entry) (i : ℕ) (r : Resource) (size : ℕ) (shape : Option ImageInfo) (maker : IsMaker x i r size shape) where
+module _ (old new : Held) (x : Entry) (i : ℕ) (r : Resource) (size : ℕ) (shape : Option ImageInfo) (creating : IsCreatingEntry x i r size shape) where
   -- a new resource that lies where its place says
   pub resource_grows : (past : Past) (e : ℕ) (p : Placed) → IsApart old.memory old.backed old.resources → Puts old new i p shape → p.size ≡ size → is_some (object_of new i) ≡ is_own r.place → ((j : ℕ) → (j ≡ i → ⊥) → object_of new j ≡ object_of old j)
       → LiesAt (live (host e x ∷ past)) new i r.place p → ((number : ℕ) → IsLive old.memory number → region_of new.memory number ≡ region_of old.memory number) → ((number t : ℕ) → type_of_place r.place ≡ Some t → object_of new i ≡ Some number → type_of new.memory number ≡ t)
       → ((number : ℕ) → IsLive old.memory number → type_of new.memory number ≡ type_of old.memory number) → PoolsGrow old new i x → IsUnused past i → Grows (live past) (live (host e x ∷ past)) old new i x
   resource_grows past e p apart puts sized object objects lies regions type types pools unused = record {
-    now = live_new past e x i maker.makes maker.ends unused;
+    now = live_new past e x i creating.makes creating.ends unused;
     fresh = not_live past i unused;
-    size = ap (λ (o : Option Placed). option_map (λ (p : Placed). p.size) o) puts.here ∙ ap (λ (n : ℕ). Some n) sized ∙ sym maker.sized;
-    shaped = puts.shaped ∙ sym maker.image;
+    size = ap (λ (o : Option Placed). option_map (λ (p : Placed). p.size) o) puts.here ∙ ap (λ (n : ℕ). Some n) sized ∙ sym creating.sized;
+    shaped = puts.shaped ∙ sym creating.image;
     places = puts.others;
     shapes = puts.shapes;
-    object = object ∙ sym maker.owns;
+    object = object ∙ sym creating.owns;
     objects = objects;
     lies = λ q t at is.
-        let both : Some r ≡ Some t = sym maker.resource ∙ is in
+        let both : Some r ≡ Some t = sym creating.resource ∙ is in
         let one : r ≡ t = cc in
         let placed_both : Some q ≡ Some p = sym at ∙ puts.here in
         let same : q ≡ p = cc in
         subst (λ (t : Resource). LiesAt (live (host e x ∷ past)) new i t.place q) one (subst (λ (q : Placed). LiesAt (live (host e x ∷ past)) new i r.place q) (sym same) lies);
-    bytes = λ number y is has. let both : None ≡ Some y = sym maker.no_memory ∙ is in absurd cc;
+    bytes = λ number y is has. let both : None ≡ Some y = sym creating.no_memory ∙ is in absurd cc;
     regions = λ j number has. regions number (apart.backed_is.live j number has);
-    type_now = λ number t is has. type number t (sym maker.type ∙ is) has;
+    type_now = λ number t is has. type number t (sym creating.type ∙ is) has;
     types = λ j number has. types number (apart.backed_is.live j number has);
-    info = pools.info ∙ sym maker.no_pool;
+    info = pools.info ∙ sym creating.no_pool;
     infos = λ j other. pools.infos j;
     pooled = pools.pooled;
     allocations = pools.allocations;
@@ -268,7 +268,7 @@ module _ (old new : Held) (x : Entry) (i : ℕ) (r : Resource) (size : ℕ) (sha
       → ((number : ℕ) → IsLive old.memory number → region_of new.memory number ≡ region_of old.memory number) → new.cache ≡ old.cache → HoldsNoneNew old new → Goes e x past old new
   resource_goes past e g m apart kept cache none = (
     grown (live past) (live (host e x ∷ past)) old new i x g m,
-    λ c cell there after has. subst (λ (y : Cell). HasCell new c y) (sym (maker.keeps past c cell)) (grown_cells (live past) (live (host e x ∷ past)) old new i x g m apart kept cache c cell there has),
+    λ c cell there after has. subst (λ (y : Cell). HasCell new c y) (sym (creating.keeps past c cell)) (grown_cells (live past) (live (host e x ∷ past)) old new i x g m apart kept cache c cell there has),
     none,
   )
 
@@ -282,7 +282,7 @@ module _ (old new : Held) (x : Entry) (i : ℕ) (r : Resource) (size : ℕ) (sha
           let g = resource_grows past e p consistent.0 made.1 refl (rw own (ap is_some makes.here)) makes.others
           (rw own (makes.here, refl)) (made_kept old new i t r.size makes) (type makes) (type_kept old new i t r.size makes) (made_pools old new i t r.size makes past x m unused) unused in (
             resource_goes past e g m consistent.0 (made_kept old new i t r.size makes) made.3 (new_unheld p made.1 made.3 none),
-            maker.reads,
+            creating.reads,
           )
         where
           type : Makes old new i t r.size → (number u : ℕ) → type_of_place r.place ≡ Some u → object_of new i ≡ Some number → type_of new.memory number ≡ u
@@ -299,17 +299,17 @@ module _ (old new : Held) (x : Entry) (i : ℕ) (r : Resource) (size : ℕ) (sha
               let at = w.object in
               omega (arith, low, at)
       go (applied.Bytes bytes) made = absurd made
-      go applied.NoRoom made = (made.0, maker.untouched)
+      go applied.NoRoom made = (made.0, creating.untouched)
 
   pub bound_done : (k o : ℕ) → r.place ≡ place.Memory k o → IsConsistent old → BindReady old k o size → Binds old new i k o size shape → (e : ℕ) (past : Past) → MatchesLive past old → IsUnused past i → FitsPlace past r (place.Memory k o) → DoneBy applied.Done e x past old new
   bound_done k o at consistent ready binds e past m unused fits =
       let none = not_live past i unused in
       let has_none : object_of old i ≡ None = unowned (live past) old i m (ap (λ (o : Option Entry). holds o has_memory) none) in
       let alone : is_some (object_of new i) ≡ is_own r.place = rw at (ap is_some (objects i ∙ has_none)) in
-      let lives : IsTrue (holds (live (host e x ∷ past) k) is_memory) = rw (live_new past e x i maker.makes maker.ends unused k, other_entry fits.0 none) fits.0 in
+      let lives : IsTrue (holds (live (host e x ∷ past) k) is_memory) = rw (live_new past e x i creating.makes creating.ends unused k, other_entry fits.0 none) fits.0 in
       let kept : (number : ℕ) → IsLive old.memory number → region_of new.memory number ≡ region_of old.memory number = λ number lives. ap (λ (n : MemoryState). region_of n number) binds.0 in
       let g = resource_grows past e p consistent.0 puts refl alone (λ j other. objects j) (subst (λ (q : Place). LiesAt (live (host e x ∷ past)) new i q p) (sym at) (lives, objects k ∙ ready.has, refl)) kept (type has_none) (λ number lives. ap (λ (n : MemoryState). type_of n number) binds.0) (bound_pools past m unused) unused in
-      (resource_goes past e g m consistent.0 kept binds.3 (new_unheld p puts binds.3 bare), maker.reads)
+      (resource_goes past e g m consistent.0 kept binds.3 (new_unheld p puts binds.3 bare), creating.reads)
     where
       p : Placed
       p = record { size = size; object = ready.number; offset = o }

@@ -37,18 +37,18 @@ pub memory_unshared : (s : Held) (y : Entry) (i : ℕ) (info : MemoryInfo) → y
 memory_unshared s y i info is past m fit = no_allocation past s i m (subst (λ (x : Entry). FitsEntry past x) is fit).0
 
 -- what an entry that makes a resource is known to be of
-pub record MakerFits (past : Past) (i : ℕ) (r : Resource) (size : ℕ) (shape : Option ImageInfo) : Type 0 where
+pub record CreationFits (past : Past) (i : ℕ) (r : Resource) (size : ℕ) (shape : Option ImageInfo) : Type 0 where
   pub unused : IsUnused past i
   pub some : 0 < size
   pub less : size ≤ r.size
   pub place : FitsPlace past r r.place
 
-pub buffer_fits : (y : Entry) (i : ℕ) (info : BufferInfo) → y ≡ entry.Buffer i info → (past : Past) → FitsEntry past y → MakerFits past i (of_buffer info) info.size None
+pub buffer_fits : (y : Entry) (i : ℕ) (info : BufferInfo) → y ≡ entry.Buffer i info → (past : Past) → FitsEntry past y → CreationFits past i (of_buffer info) info.size None
 buffer_fits y i info is past fit =
     let fits : FitsBuffer past i info = subst (λ (x : Entry). FitsEntry past x) is fit in
     record { unused = fits.unused; some = fits.some; less = omega arith; place = fits.place }
 
-pub image_fits : (y : Entry) (i : ℕ) (info : ImageInfo) → 0 < image_size info info.tiling → y ≡ entry.Image i info → (past : Past) → FitsEntry past y → MakerFits past i (of_image info) (image_size info info.tiling) (Some info)
+pub image_fits : (y : Entry) (i : ℕ) (info : ImageInfo) → 0 < image_size info info.tiling → y ≡ entry.Image i info → (past : Past) → FitsEntry past y → CreationFits past i (of_image info) (image_size info info.tiling) (Some info)
 image_fits y i info some is past fit =
     let fits : FitsImage past i info = subst (λ (x : Entry). FitsEntry past x) is fit in
     record { unused = fits.unused; some = some; less = omega arith; place = fits.place }
@@ -70,7 +70,7 @@ image_refusal y i info is past fit =
     let fits : FitsImage past i info = subst (λ (x : Entry). FitsEntry past x) is fit in
     rw (fits.shaped, le-ltb 67108864 (image_size info info.tiling) fits.bounded) refl
 
-module _ (s : Held) (past : Past) (m : MatchesLive past s) (i : ℕ) (r : Resource) (size : ℕ) (shape : Option ImageInfo) (fits : MakerFits past i r size shape) where
+module _ (s : Held) (past : Past) (m : MatchesLive past s) (i : ℕ) (r : Resource) (size : ℕ) (shape : Option ImageInfo) (fits : CreationFits past i r size shape) where
   pub no_object : object_of s i ≡ None
   no_object = unowned (live past) s i m (ap (λ (o : Option Entry). holds o has_memory) (not_live past i fits.unused))
 

@@ -12,6 +12,7 @@ use Rattle.vk_image_transfer.specs.Held.{place_of, byte_held}
 use Rattle.vk_transfer.specs.Ran.{AreApart}
 use Rattle.vk_resources.specs.declared.resources.Placed.{Placed}
 use Rattle.vk_backing.specs.Allotted.{kind_of}
+use Rattle.vk_backing.proofs.Grown.{some_there}
 use Rattle.vk_resources.specs.Allocating.{allotted}
 use Rattle.vk_resources.specs.Held.{Held, IsApart, IsInside, AreShaped, placed, shape_of, form_of, lying_in, place_in, byte_at, IsThere}
 use Rattle.vk_resources.specs.Inner.Steps.{KeepsPlaces}
@@ -24,16 +25,12 @@ pub record Lies (s : Held) (c : Byte) : Type 0 where
   pub here : placed s (resource_at c) ≡ Some place
   pub is : place_of (form_of (shape_of s (resource_at c)) place.size) c ≡ Some at
 
-some_of : {A : Type 0} (o : Option A) → IsSome o → (x : A) × (o ≡ Some x)
-some_of None h = absurd cc
-some_of (Some x) h = (x, refl)
-
 pub where_lies : (s : Held) (c : Byte) → IsThere s c → Lies s c
 where_lies s c there = go (placed s (resource_at c)) refl there
   where
     go : (o : Option Placed) → placed s (resource_at c) ≡ o → IsSome (place_in (shape_of s (resource_at c)) o c) → Lies s c
     go None is there = absurd cc
-    go (Some p) is there = let k = some_of (place_of (form_of (shape_of s (resource_at c)) p.size) c) there in record { place = p; at = k.0; here = is; is = k.1 }
+    go (Some p) is there = let k = some_there (place_of (form_of (shape_of s (resource_at c)) p.size) c) there in record { place = p; at = k.0; here = is; is = k.1 }
 
 pub lies_there : (s : Held) (c : Byte) → Lies s c → IsThere s c
 lies_there s c l = rw (l.here, l.is) refl

@@ -26,9 +26,9 @@ use Rattle.vk_resources.specs.Matches.{MatchesLive}
 use Rattle.vk_resources.specs.Fits.{FitsEntry, FitsPlace}
 use Rattle.vk_resources.specs.Done.{DoneBy}
 use Rattle.vk_resources.specs.Inner.Steps.{ResourceMade, BindReady, Binds, SharedMade}
-use Rattle.vk_resources.proofs.Applying.{IsMaker, resource_done, bound_done}
+use Rattle.vk_resources.proofs.Applying.{IsCreatingEntry, resource_done, bound_done}
 use Rattle.vk_resources.proofs.Allotting.{resource_rooms, resource_allots, bound_rooms, bound_allots, bound_same}
-use Rattle.vk_resources.proofs.Ending.{MakerFits, binds_ready, image_good}
+use Rattle.vk_resources.proofs.Ending.{CreationFits, binds_ready, image_good}
 
 -- ---- the shape of an image
 
@@ -59,32 +59,32 @@ some_of law y i info is past fit = image_some law info (image_good y i info is p
 
 -- ---- an entry that makes a resource
 
-module _ (s new : Held) (y x : Entry) (is : y ≡ x) (i : ℕ) (r : Resource) (size : ℕ) (shape : Option ImageInfo) (maker : IsMaker x i r size shape) (fits : (past : Past) → FitsEntry past y → MakerFits past i r size shape) (consistent : IsConsistent s) where
+module _ (s new : Held) (y x : Entry) (is : y ≡ x) (i : ℕ) (r : Resource) (size : ℕ) (shape : Option ImageInfo) (creating : IsCreatingEntry x i r size shape) (fits : (past : Past) → FitsEntry past y → CreationFits past i r size shape) (consistent : IsConsistent s) where
   module _ (t : ℕ) (own : r.place ≡ place.Dedicated t) (a : Applied) (made : ResourceMade a s new i t size r.size shape) where
     pub own_done : (e : ℕ) (past : Past) → MatchesLive past s → FitsEntry past y → DoneBy a e y past s new
-    own_done e past m fit = subst (λ (z : Entry). DoneBy a e z past s new) (sym is) (resource_done s new x i r size shape maker t own consistent a made e past m (fits past fit).unused)
+    own_done e past m fit = subst (λ (z : Entry). DoneBy a e z past s new) (sym is) (resource_done s new x i r size shape creating t own consistent a made e past m (fits past fit).unused)
 
     pub own_rooms : (past : Past) → FitsEntry past y → NoRoomIsExact a s y
-    own_rooms past fit = subst (λ (z : Entry). NoRoomIsExact a s z) (sym is) (resource_rooms s new x i r size shape maker t own a made)
+    own_rooms past fit = subst (λ (z : Entry). NoRoomIsExact a s z) (sym is) (resource_rooms s new x i r size shape creating t own a made)
 
     pub own_allots : (past : Past) → MatchesLive past s → FitsEntry past y → Allots a y s new
-    own_allots past m fit = subst (λ (z : Entry). Allots a z s new) (sym is) (resource_allots s new x i r size shape maker t own a made)
+    own_allots past m fit = subst (λ (z : Entry). Allots a z s new) (sym is) (resource_allots s new x i r size shape creating t own a made)
 
   module _ (k o : ℕ) (at : r.place ≡ place.Memory k o) where
     pub may_bind : (past : Past) → MatchesLive past s → FitsEntry past y → BindReady s k o size
     may_bind past m fit = binds_ready s past m i r size shape (fits past fit) k o at consistent
 
     pub bind_rooms : (past : Past) → FitsEntry past y → NoRoomIsExact applied.Done s y
-    bind_rooms past fit = subst (λ (z : Entry). NoRoomIsExact applied.Done s z) (sym is) (bound_rooms s new x i r size shape maker k o at)
+    bind_rooms past fit = subst (λ (z : Entry). NoRoomIsExact applied.Done s z) (sym is) (bound_rooms s new x i r size shape creating k o at)
 
     module _ (binds : Binds s new i k o size shape) where
       pub bind_done : (e : ℕ) (past : Past) → MatchesLive past s → FitsEntry past y → DoneBy applied.Done e y past s new
       bind_done e past m fit =
           subst (λ (z : Entry). DoneBy applied.Done e z past s new) (sym is)
-          (bound_done s new x i r size shape maker k o at consistent (may_bind past m fit) binds e past m (fits past fit).unused (subst (λ (q : Place). FitsPlace past r q) at (fits past fit).place))
+          (bound_done s new x i r size shape creating k o at consistent (may_bind past m fit) binds e past m (fits past fit).unused (subst (λ (q : Place). FitsPlace past r q) at (fits past fit).place))
 
       pub bind_allots : (past : Past) → MatchesLive past s → FitsEntry past y → Allots applied.Done y s new
-      bind_allots past m fit = subst (λ (z : Entry). Allots applied.Done z s new) (sym is) (bound_allots s new x i r size shape maker k o at (bound_same s new binds.0 binds.1))
+      bind_allots past m fit = subst (λ (z : Entry). Allots applied.Done z s new) (sym is) (bound_allots s new x i r size shape creating k o at (bound_same s new binds.0 binds.1))
 
 -- what was made by the size that was asked, and of the shape that was given
 pub made_as : (a : Applied) (s new : Held) (i t n : ℕ) (shape info : ImageInfo) → n ≡ image_size info info.tiling → shape ≡ info → ResourceMade a s new i t n n (Some shape) → ResourceMade a s new i t (image_size info info.tiling) (of_image info).size (Some info)

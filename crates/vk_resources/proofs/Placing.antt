@@ -3,9 +3,6 @@ use Rattle.std.proofs.Common.{◌≡◌, inl, inr, ℕ, ◌+◌, ◌-◌, ◌≤
 use Rattle.std.proofs.lemmas.Bool.{eqb-true, eqb-false, cases_lt}
 use Rattle.std.proofs.Math.Seq.{get_or-append_right}
 use Rattle.std.proofs.lemmas.List.{get_or_append_left, get_or_past, length-set}
-use Rattle.std.proofs.lemmas.Grind.{common_steps}
-use Rattle.std.specs.Ordering.{nat_cmp}
-use Rattle.std.specs.BTreeMap.{is_at}
 use Rattle.std.specs.Prelude.{IsSome, IfSome, slice_set}
 use Rattle.vk_memory.specs.declared.memories.Object.{Object}
 use Rattle.vk_memory.specs.MemoryState.{MemoryState, IsLive, object_at, region_of, bytes_of, rewritten, with_region, with_object}
@@ -200,8 +197,3 @@ apart_ended m gone backed new resources resources' id none places stays is apart
         let inside = inside_of m backed resources apart b p (was b p at) in
         let lives = stays b p (other b p at) (was b p at) in
         record { live = lives; some = inside.some; room = subst (λ (x : Option Object). p.offset + p.size ≤ length (bytes_of x)) (sym (released_object m gone p.object lives)) inside.room }
-
--- ---- maps by ids
-
-pub other_id : (id q : ℕ) → (q ≡ id → ⊥) → is_at (nat_cmp id) q ≡ false
-other_id id q other = grind (arith, common_steps)

@@ -36,7 +36,7 @@ use Rattle.vk_resources.proofs.Placing.{grown_object, inside_of, turned}
 use Rattle.vk_resources.proofs.CachedBytes.{clear_atoms}
 use Rattle.vk_resources.proofs.Matching.{home, lies_in, live_of_placed, resource_of_placed, unowned, unplaced}
 use Rattle.vk_resources.proofs.Living.{not_live}
-use Rattle.vk_resources.proofs.Applying.{IsMaker, PoolsGrow, pool_keeps, no_info, resource_grows, resource_goes, new_unheld}
+use Rattle.vk_resources.proofs.Applying.{IsCreatingEntry, PoolsGrow, pool_keeps, no_info, resource_grows, resource_goes, new_unheld}
 
 -- ---- where other resources lie
 
@@ -136,7 +136,7 @@ abbrev pub place_in : Bool → ℕ → Place
 place_in false q = place.Pool q
 place_in true q = place.PoolUpper q
 
-module _ (old new : Held) (x : Entry) (i : ℕ) (r : Resource) (size : ℕ) (shape : Option ImageInfo) (maker : IsMaker x i r size shape) (pool : ℕ) (upper : Bool) (at : r.place ≡ place_in upper pool) (asked : Asked) (asks : Asks r asked) where
+module _ (old new : Held) (x : Entry) (i : ℕ) (r : Resource) (size : ℕ) (shape : Option ImageInfo) (creating : IsCreatingEntry x i r size shape) (pool : ℕ) (upper : Bool) (at : r.place ≡ place_in upper pool) (asked : Asked) (asks : Asks r asked) where
   no_type : (b : Bool) (u : ℕ) → type_of_place (place_in b pool) ≡ Some u → ⊥
   no_type false u e = cc
   no_type true u e = cc
@@ -157,7 +157,7 @@ module _ (old new : Held) (x : Entry) (i : ℕ) (r : Resource) (size : ℕ) (sha
   shared_done consistent a made fits e past m unused = go a made
     where
       go : (a : Applied) → SharedMade a old new i pool size asked upper shape → DoneBy a e x past old new
-      go applied.NoRoom made = (made.0, maker.untouched)
+      go applied.NoRoom made = (made.0, creating.untouched)
       go (applied.Bytes bytes) made = absurd made
       go applied.Done made =
           let spot = made.0 in let put = made.1 in let shares = put.shares in
@@ -173,15 +173,15 @@ module _ (old new : Held) (x : Entry) (i : ℕ) (r : Resource) (size : ℕ) (sha
           let pools : PoolsGrow old new i x = record {
             info = shares.infos i ∙ no_info past old i m unused;
             infos = shares.infos;
-            pooled = λ a has. maker.shares ∙ ap (λ (q : Place). is_some (pool_at q)) at ∙ in_one upper;
+            pooled = λ a has. creating.shares ∙ ap (λ (q : Place). is_some (pool_at q)) at ∙ in_one upper;
             allocations = shares.others;
             whole = put.whole;
             keeps = λ b q p other l. pool_keeps old new b q p put.backed (numbers q) (λ n s lies. shares.keeps b n s other lies) l;
           } in
-          let g = resource_grows old new x i r size shape maker past e p consistent.0 put.puts refl object (λ j other. objects j)
+          let g = resource_grows old new x i r size shape creating past e p consistent.0 put.puts refl object (λ j other. objects j)
           (subst (λ (q : Place). LiesAt (live (host e x ∷ past)) new i q p) (sym at) (lies_of (live (host e x ∷ past)) new p upper of))
           regions (λ number u is has. absurd (no_type upper u (ap type_of_place (sym at) ∙ is))) types pools unused in
-          (resource_goes old new x i r size shape maker past e g m consistent.0 regions put.cache (new_unheld old new x i r size shape maker p put.puts put.cache (bare spot put p types)), maker.reads)
+          (resource_goes old new x i r size shape creating past e g m consistent.0 regions put.cache (new_unheld old new x i r size shape creating p put.puts put.cache (bare spot put p types)), creating.reads)
         where
           bare : (spot : Spot) → PutIn old new i pool size asked upper shape spot → (p : Placed) → ((number : ℕ) → IsLive old.memory number → type_of new.memory number ≡ type_of old.memory number) → (k : ℕ) → k < size → IsSome (held_at old.cache spot.memory (spot.offset + k)) → ⊥
           bare spot put p types k lt held =
@@ -201,17 +201,17 @@ module _ (old new : Held) (x : Entry) (i : ℕ) (r : Resource) (size : ℕ) (sha
   shared_rooms a made = go upper at a made
     where
       go : (b : Bool) → r.place ≡ place_in b pool → (a : Applied) → SharedMade a old new i pool size asked b shape → NoRoomIsExact a old x
-      go false e applied.Done made = λ d al none. (made.1.allots r asks d al).0 (subst (λ (q : Place). FindsNoneAt d q r) e (maker.found d none))
-      go true e applied.Done made = λ d al none. (made.1.allots r asks d al).0 (subst (λ (q : Place). FindsNoneAt d q r) e (maker.found d none))
+      go false e applied.Done made = λ d al none. (made.1.allots r asks d al).0 (subst (λ (q : Place). FindsNoneAt d q r) e (creating.found d none))
+      go true e applied.Done made = λ d al none. (made.1.allots r asks d al).0 (subst (λ (q : Place). FindsNoneAt d q r) e (creating.found d none))
       go b e (applied.Bytes bytes) made = absurd made
-      go false e applied.NoRoom made = λ d al. maker.finds d (finds_in d false e (made.1 r asks d al))
-      go true e applied.NoRoom made = λ d al. maker.finds d (finds_in d true e (made.1 r asks d al))
+      go false e applied.NoRoom made = λ d al. creating.finds d (finds_in d false e (made.1 r asks d al))
+      go true e applied.NoRoom made = λ d al. creating.finds d (finds_in d true e (made.1 r asks d al))
 
   pub shared_allots : (a : Applied) → SharedMade a old new i pool size asked upper shape → Allots a x old new
   shared_allots a made = go upper at a made
     where
       go : (b : Bool) → r.place ≡ place_in b pool → (a : Applied) → SharedMade a old new i pool size asked b shape → Allots a x old new
-      go false e applied.Done made = λ d al. let f = (made.1.allots r asks d al).1 in (f.0, maker.changes d f.0 (subst (λ (q : Place). Gets d i r q f.0) (sym e) f.1), f.2)
-      go true e applied.Done made = λ d al. let f = (made.1.allots r asks d al).1 in (f.0, maker.changes d f.0 (subst (λ (q : Place). Gets d i r q f.0) (sym e) f.1), f.2)
+      go false e applied.Done made = λ d al. let f = (made.1.allots r asks d al).1 in (f.0, creating.changes d f.0 (subst (λ (q : Place). Gets d i r q f.0) (sym e) f.1), f.2)
+      go true e applied.Done made = λ d al. let f = (made.1.allots r asks d al).1 in (f.0, creating.changes d f.0 (subst (λ (q : Place). Gets d i r q f.0) (sym e) f.1), f.2)
       go b e (applied.Bytes bytes) made = absurd made
       go b e applied.NoRoom made = λ d al. subst (λ (s : Held). allotting.Fulfils (allotted s) d) (sym made.0) al

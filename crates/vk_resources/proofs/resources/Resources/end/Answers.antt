@@ -1,7 +1,7 @@
 use Rattle.std.proofs.Common.{◌≡◌, ap, sym, ◌∙◌, subst, refl}
 use Rattle.vk_resources.specs.Held.{Held}
 use Rattle.vk_resources.specs.Inner.Steps.{IsEmpty, Forgets}
-use Rattle.vk_resources.proofs.Placing.{other_id}
+use Rattle.vk_backing.proofs.Grown.{other_id}
 use Rattle.vk_resources.proofs.CachedSteps.{all_ended, bare_object, all_none}
 use Rattle.vk_resources.proofs.resources.Resources.end.Goals as goal
 

@@ -8,7 +8,7 @@ use Rattle.vk_model.specs.Trace.Image.{image_size}
 use Rattle.vk_model.specs.Trace.Objects.{of_image}
 use Rattle.vma_pools.specs.declared.allocations.Asked.{Asked}
 use Rattle.vk_resources.specs.Inner.Steps.{BindReady}
-use Rattle.vk_resources.proofs.Applying.{image_maker}
+use Rattle.vk_resources.proofs.Applying.{creates_image}
 use Rattle.vk_model.specs.Memory.Suballocation.{IsRequest}
 use Rattle.vk_resources.proofs.Requests.{image_request}
 use Rattle.vk_resources.proofs.Ending.{image_fits, image_good}
@@ -56,7 +56,7 @@ bind-requires-clause-ready c = λ consistent.
     let same = c.in-Ok.ensures.1 in
     let size : c.requirements-need.result.size ≡ image_size c.args.info.now c.args.info.now.tiling = ap (λ (n : Need). n.size) c.requirements-need.ensures.need ∙ ap (λ (m : ImageInfo). image_size m m.tiling) same in
     let r = c.requires.ready in
-    subst (λ (n : ℕ). BindReady c.args.self.now c.in-Memory.memory c.in-Memory.offset n) (sym size) (may_bind c.args.self.now c.args.self.now (entry.Image c.args.id c.args.info.now) (entry.Image c.args.id c.args.info.now) refl c.args.id (of_image c.args.info.now) (image_size c.args.info.now c.args.info.now.tiling) (Some c.args.info.now) (image_maker c.args.id c.args.info.now) (λ past fit. image_fits (entry.Image c.args.id c.args.info.now) c.args.id c.args.info.now (some_of c.texels_inside.ensures (entry.Image c.args.id c.args.info.now) c.args.id c.args.info.now refl past fit) refl past fit) consistent c.in-Memory.memory c.in-Memory.offset c.in-Memory.is r.0 r.1 r.2)
+    subst (λ (n : ℕ). BindReady c.args.self.now c.in-Memory.memory c.in-Memory.offset n) (sym size) (may_bind c.args.self.now c.args.self.now (entry.Image c.args.id c.args.info.now) (entry.Image c.args.id c.args.info.now) refl c.args.id (of_image c.args.info.now) (image_size c.args.info.now c.args.info.now.tiling) (Some c.args.info.now) (creates_image c.args.id c.args.info.now) (λ past fit. image_fits (entry.Image c.args.id c.args.info.now) c.args.id c.args.info.now (some_of c.texels_inside.ensures (entry.Image c.args.id c.args.info.now) c.args.id c.args.info.now refl past fit) refl past fit) consistent c.in-Memory.memory c.in-Memory.offset c.in-Memory.is r.0 r.1 r.2)
 
 pub make_shared-requires-clause-elsewhere : goal.make_shared-requires-clause-elsewhere
 make_shared-requires-clause-elsewhere c =
@@ -72,13 +72,13 @@ pub returns-in-Dedicated-clause-done : goal.returns-in-Dedicated-clause-done
 returns-in-Dedicated-clause-done c =
     let same = c.in-Ok.ensures.1 in
     let size : c.requirements-need.result.size ≡ image_size c.args.info.now c.args.info.now.tiling = ap (λ (n : Need). n.size) c.requirements-need.ensures.need ∙ ap (λ (m : ImageInfo). image_size m m.tiling) same in
-    IfOk-weaker c.make_resource.result _ _ (λ a made. λ e past m fit. own_done c.args.self.now c.make_resource.new.self (entry.Image c.args.id c.args.info.now) (entry.Image c.args.id c.args.info.now) refl c.args.id (of_image c.args.info.now) (image_size c.args.info.now c.args.info.now.tiling) (Some c.args.info.now) (image_maker c.args.id c.args.info.now) (λ past fit. image_fits (entry.Image c.args.id c.args.info.now) c.args.id c.args.info.now (some_of c.texels_inside.ensures (entry.Image c.args.id c.args.info.now) c.args.id c.args.info.now refl past fit) refl past fit) c.make_resource.ensures.consistent c.in-Dedicated.memory_type c.in-Dedicated.is a (made_as a c.args.self.now c.make_resource.new.self c.args.id c.in-Dedicated.memory_type c.requirements-need.result.size c.in-Ok.shape c.args.info.now size same made) e past m fit) c.make_resource.ensures.made
+    IfOk-weaker c.make_resource.result _ _ (λ a made. λ e past m fit. own_done c.args.self.now c.make_resource.new.self (entry.Image c.args.id c.args.info.now) (entry.Image c.args.id c.args.info.now) refl c.args.id (of_image c.args.info.now) (image_size c.args.info.now c.args.info.now.tiling) (Some c.args.info.now) (creates_image c.args.id c.args.info.now) (λ past fit. image_fits (entry.Image c.args.id c.args.info.now) c.args.id c.args.info.now (some_of c.texels_inside.ensures (entry.Image c.args.id c.args.info.now) c.args.id c.args.info.now refl past fit) refl past fit) c.make_resource.ensures.consistent c.in-Dedicated.memory_type c.in-Dedicated.is a (made_as a c.args.self.now c.make_resource.new.self c.args.id c.in-Dedicated.memory_type c.requirements-need.result.size c.in-Ok.shape c.args.info.now size same made) e past m fit) c.make_resource.ensures.made
 
 pub returns-in_ok-bind-in-Memory-clause-done : goal.returns-in_ok-bind-in-Memory-clause-done
 returns-in_ok-bind-in-Memory-clause-done c = λ e past m fit.
     let same = c.in-Ok.ensures.1 in
     let size : c.requirements-need.result.size ≡ image_size c.args.info.now c.args.info.now.tiling = ap (λ (n : Need). n.size) c.requirements-need.ensures.need ∙ ap (λ (m : ImageInfo). image_size m m.tiling) same in
-    bind_done c.args.self.now c.bind.new.self (entry.Image c.args.id c.args.info.now) (entry.Image c.args.id c.args.info.now) refl c.args.id (of_image c.args.info.now) (image_size c.args.info.now c.args.info.now.tiling) (Some c.args.info.now) (image_maker c.args.id c.args.info.now) (λ past fit. image_fits (entry.Image c.args.id c.args.info.now) c.args.id c.args.info.now (some_of c.texels_inside.ensures (entry.Image c.args.id c.args.info.now) c.args.id c.args.info.now refl past fit) refl past fit) c.bind.ensures.consistent c.in-Memory.memory c.in-Memory.offset c.in-Memory.is (binds_as c.args.self.now c.bind.new.self c.args.id c.in-Memory.memory c.in-Memory.offset c.requirements-need.result.size c.in-Ok.shape c.args.info.now size same c.in_ok-bind-in-Memory.ensures.bound) e past m fit
+    bind_done c.args.self.now c.bind.new.self (entry.Image c.args.id c.args.info.now) (entry.Image c.args.id c.args.info.now) refl c.args.id (of_image c.args.info.now) (image_size c.args.info.now c.args.info.now.tiling) (Some c.args.info.now) (creates_image c.args.id c.args.info.now) (λ past fit. image_fits (entry.Image c.args.id c.args.info.now) c.args.id c.args.info.now (some_of c.texels_inside.ensures (entry.Image c.args.id c.args.info.now) c.args.id c.args.info.now refl past fit) refl past fit) c.bind.ensures.consistent c.in-Memory.memory c.in-Memory.offset c.in-Memory.is (binds_as c.args.self.now c.bind.new.self c.args.id c.in-Memory.memory c.in-Memory.offset c.requirements-need.result.size c.in-Ok.shape c.args.info.now size same c.in_ok-bind-in-Memory.ensures.bound) e past m fit
 
 pub returns-in-Pool-clause-done : goal.returns-in-Pool-clause-done
 returns-in-Pool-clause-done c =
@@ -86,7 +86,7 @@ returns-in-Pool-clause-done c =
     let size : c.requirements-need.result.size ≡ image_size c.args.info.now c.args.info.now.tiling = ap (λ (n : Need). n.size) c.requirements-need.ensures.need ∙ ap (λ (m : ImageInfo). image_size m m.tiling) same in
     let align : c.requirements-need.result.align ≡ (of_image c.args.info.now).align = ap (λ (n : Need). n.align) c.requirements-need.ensures.need ∙ ap (λ (m : ImageInfo). (of_image m).align) same in
     let asked : Asked = record { size = c.requirements-need.result.size; align = c.requirements-need.result.align; kind = c.args.info.now.tiling } in
-    IfOk-weaker c.make_shared.result _ _ (λ a made. λ e past m fit. shared_done c.args.self.now c.make_shared.new.self (entry.Image c.args.id c.args.info.now) c.args.id (of_image c.args.info.now) (image_size c.args.info.now c.args.info.now.tiling) (Some c.args.info.now) (image_maker c.args.id c.args.info.now) c.in-Pool.pool false c.in-Pool.is asked (sym size, sym align, refl) c.make_shared.ensures.consistent a (shared_as a c.args.self.now c.make_shared.new.self c.args.id c.in-Pool.pool c.requirements-need.result.size (image_size c.args.info.now c.args.info.now.tiling) asked false c.in-Ok.shape c.args.info.now size same made) (omega (arith, size)) e past m (image_fits (entry.Image c.args.id c.args.info.now) c.args.id c.args.info.now (some_of c.texels_inside.ensures (entry.Image c.args.id c.args.info.now) c.args.id c.args.info.now refl past fit) refl past fit).unused) c.make_shared.ensures.made
+    IfOk-weaker c.make_shared.result _ _ (λ a made. λ e past m fit. shared_done c.args.self.now c.make_shared.new.self (entry.Image c.args.id c.args.info.now) c.args.id (of_image c.args.info.now) (image_size c.args.info.now c.args.info.now.tiling) (Some c.args.info.now) (creates_image c.args.id c.args.info.now) c.in-Pool.pool false c.in-Pool.is asked (sym size, sym align, refl) c.make_shared.ensures.consistent a (shared_as a c.args.self.now c.make_shared.new.self c.args.id c.in-Pool.pool c.requirements-need.result.size (image_size c.args.info.now c.args.info.now.tiling) asked false c.in-Ok.shape c.args.info.now size same made) (omega (arith, size)) e past m (image_fits (entry.Image c.args.id c.args.info.now) c.args.id c.args.info.now (some_of c.texels_inside.ensures (entry.Image c.args.id c.args.info.now) c.args.id c.args.info.now refl past fit) refl past fit).unused) c.make_shared.ensures.made
 
 pub returns-in-Pool-clause-rooms : goal.returns-in-Pool-clause-rooms
 returns-in-Pool-clause-rooms c =
@@ -94,7 +94,7 @@ returns-in-Pool-clause-rooms c =
     let size : c.requirements-need.result.size ≡ image_size c.args.info.now c.args.info.now.tiling = ap (λ (n : Need). n.size) c.requirements-need.ensures.need ∙ ap (λ (m : ImageInfo). image_size m m.tiling) same in
     let align : c.requirements-need.result.align ≡ (of_image c.args.info.now).align = ap (λ (n : Need). n.align) c.requirements-need.ensures.need ∙ ap (λ (m : ImageInfo). (of_image m).align) same in
     let asked : Asked = record { size = c.requirements-need.result.size; align = c.requirements-need.result.align; kind = c.args.info.now.tiling } in
-    IfOk-weaker c.make_shared.result _ _ (λ a made. λ past fit. shared_rooms c.args.self.now c.make_shared.new.self (entry.Image c.args.id c.args.info.now) c.args.id (of_image c.args.info.now) (image_size c.args.info.now c.args.info.now.tiling) (Some c.args.info.now) (image_maker c.args.id c.args.info.now) c.in-Pool.pool false c.in-Pool.is asked (sym size, sym align, refl) a (shared_as a c.args.self.now c.make_shared.new.self c.args.id c.in-Pool.pool c.requirements-need.result.size (image_size c.args.info.now c.args.info.now.tiling) asked false c.in-Ok.shape c.args.info.now size same made)) c.make_shared.ensures.made
+    IfOk-weaker c.make_shared.result _ _ (λ a made. λ past fit. shared_rooms c.args.self.now c.make_shared.new.self (entry.Image c.args.id c.args.info.now) c.args.id (of_image c.args.info.now) (image_size c.args.info.now c.args.info.now.tiling) (Some c.args.info.now) (creates_image c.args.id c.args.info.now) c.in-Pool.pool false c.in-Pool.is asked (sym size, sym align, refl) a (shared_as a c.args.self.now c.make_shared.new.self c.args.id c.in-Pool.pool c.requirements-need.result.size (image_size c.args.info.now c.args.info.now.tiling) asked false c.in-Ok.shape c.args.info.now size same made)) c.make_shared.ensures.made
 
 pub returns-in-Pool-clause-allots : goal.returns-in-Pool-clause-allots
 returns-in-Pool-clause-allots c =
@@ -102,7 +102,7 @@ returns-in-Pool-clause-allots c =
     let size : c.requirements-need.result.size ≡ image_size c.args.info.now c.args.info.now.tiling = ap (λ (n : Need). n.size) c.requirements-need.ensures.need ∙ ap (λ (m : ImageInfo). image_size m m.tiling) same in
     let align : c.requirements-need.result.align ≡ (of_image c.args.info.now).align = ap (λ (n : Need). n.align) c.requirements-need.ensures.need ∙ ap (λ (m : ImageInfo). (of_image m).align) same in
     let asked : Asked = record { size = c.requirements-need.result.size; align = c.requirements-need.result.align; kind = c.args.info.now.tiling } in
-    IfOk-weaker c.make_shared.result _ _ (λ a made. λ past m fit. shared_allots c.args.self.now c.make_shared.new.self (entry.Image c.args.id c.args.info.now) c.args.id (of_image c.args.info.now) (image_size c.args.info.now c.args.info.now.tiling) (Some c.args.info.now) (image_maker c.args.id c.args.info.now) c.in-Pool.pool false c.in-Pool.is asked (sym size, sym align, refl) a (shared_as a c.args.self.now c.make_shared.new.self c.args.id c.in-Pool.pool c.requirements-need.result.size (image_size c.args.info.now c.args.info.now.tiling) asked false c.in-Ok.shape c.args.info.now size same made)) c.make_shared.ensures.made
+    IfOk-weaker c.make_shared.result _ _ (λ a made. λ past m fit. shared_allots c.args.self.now c.make_shared.new.self (entry.Image c.args.id c.args.info.now) c.args.id (of_image c.args.info.now) (image_size c.args.info.now c.args.info.now.tiling) (Some c.args.info.now) (creates_image c.args.id c.args.info.now) c.in-Pool.pool false c.in-Pool.is asked (sym size, sym align, refl) a (shared_as a c.args.self.now c.make_shared.new.self c.args.id c.in-Pool.pool c.requirements-need.result.size (image_size c.args.info.now c.args.info.now.tiling) asked false c.in-Ok.shape c.args.info.now size same made)) c.make_shared.ensures.made
 
 pub returns-in-PoolUpper-clause-done : goal.returns-in-PoolUpper-clause-done
 returns-in-PoolUpper-clause-done c =
@@ -110,7 +110,7 @@ returns-in-PoolUpper-clause-done c =
     let size : c.requirements-need.result.size ≡ image_size c.args.info.now c.args.info.now.tiling = ap (λ (n : Need). n.size) c.requirements-need.ensures.need ∙ ap (λ (m : ImageInfo). image_size m m.tiling) same in
     let align : c.requirements-need.result.align ≡ (of_image c.args.info.now).align = ap (λ (n : Need). n.align) c.requirements-need.ensures.need ∙ ap (λ (m : ImageInfo). (of_image m).align) same in
     let asked : Asked = record { size = c.requirements-need.result.size; align = c.requirements-need.result.align; kind = c.args.info.now.tiling } in
-    IfOk-weaker c.make_shared-in-PoolUpper.result _ _ (λ a made. λ e past m fit. shared_done c.args.self.now c.make_shared-in-PoolUpper.new.self (entry.Image c.args.id c.args.info.now) c.args.id (of_image c.args.info.now) (image_size c.args.info.now c.args.info.now.tiling) (Some c.args.info.now) (image_maker c.args.id c.args.info.now) c.in-PoolUpper.pool true c.in-PoolUpper.is asked (sym size, sym align, refl) c.make_shared-in-PoolUpper.ensures.consistent a (shared_as a c.args.self.now c.make_shared-in-PoolUpper.new.self c.args.id c.in-PoolUpper.pool c.requirements-need.result.size (image_size c.args.info.now c.args.info.now.tiling) asked true c.in-Ok.shape c.args.info.now size same made) (omega (arith, size)) e past m (image_fits (entry.Image c.args.id c.args.info.now) c.args.id c.args.info.now (some_of c.texels_inside.ensures (entry.Image c.args.id c.args.info.now) c.args.id c.args.info.now refl past fit) refl past fit).unused) c.make_shared-in-PoolUpper.ensures.made
+    IfOk-weaker c.make_shared-in-PoolUpper.result _ _ (λ a made. λ e past m fit. shared_done c.args.self.now c.make_shared-in-PoolUpper.new.self (entry.Image c.args.id c.args.info.now) c.args.id (of_image c.args.info.now) (image_size c.args.info.now c.args.info.now.tiling) (Some c.args.info.now) (creates_image c.args.id c.args.info.now) c.in-PoolUpper.pool true c.in-PoolUpper.is asked (sym size, sym align, refl) c.make_shared-in-PoolUpper.ensures.consistent a (shared_as a c.args.self.now c.make_shared-in-PoolUpper.new.self c.args.id c.in-PoolUpper.pool c.requirements-need.result.size (image_size c.args.info.now c.args.info.now.tiling) asked true c.in-Ok.shape c.args.info.now size same made) (omega (arith, size)) e past m (image_fits (entry.Image c.args.id c.args.info.now) c.args.id c.args.info.now (some_of c.texels_inside.ensures (entry.Image c.args.id c.args.info.now) c.args.id c.args.info.now refl past fit) refl past fit).unused) c.make_shared-in-PoolUpper.ensures.made
 
 pub returns-in-PoolUpper-clause-rooms : goal.returns-in-PoolUpper-clause-rooms
 returns-in-PoolUpper-clause-rooms c =
@@ -118,7 +118,7 @@ returns-in-PoolUpper-clause-rooms c =
     let size : c.requirements-need.result.size ≡ image_size c.args.info.now c.args.info.now.tiling = ap (λ (n : Need). n.size) c.requirements-need.ensures.need ∙ ap (λ (m : ImageInfo). image_size m m.tiling) same in
     let align : c.requirements-need.result.align ≡ (of_image c.args.info.now).align = ap (λ (n : Need). n.align) c.requirements-need.ensures.need ∙ ap (λ (m : ImageInfo). (of_image m).align) same in
     let asked : Asked = record { size = c.requirements-need.result.size; align = c.requirements-need.result.align; kind = c.args.info.now.tiling } in
-    IfOk-weaker c.make_shared-in-PoolUpper.result _ _ (λ a made. λ past fit. shared_rooms c.args.self.now c.make_shared-in-PoolUpper.new.self (entry.Image c.args.id c.args.info.now) c.args.id (of_image c.args.info.now) (image_size c.args.info.now c.args.info.now.tiling) (Some c.args.info.now) (image_maker c.args.id c.args.info.now) c.in-PoolUpper.pool true c.in-PoolUpper.is asked (sym size, sym align, refl) a (shared_as a c.args.self.now c.make_shared-in-PoolUpper.new.self c.args.id c.in-PoolUpper.pool c.requirements-need.result.size (image_size c.args.info.now c.args.info.now.tiling) asked true c.in-Ok.shape c.args.info.now size same made)) c.make_shared-in-PoolUpper.ensures.made
+    IfOk-weaker c.make_shared-in-PoolUpper.result _ _ (λ a made. λ past fit. shared_rooms c.args.self.now c.make_shared-in-PoolUpper.new.self (entry.Image c.args.id c.args.info.now) c.args.id (of_image c.args.info.now) (image_size c.args.info.now c.args.info.now.tiling) (Some c.args.info.now) (creates_image c.args.id c.args.info.now) c.in-PoolUpper.pool true c.in-PoolUpper.is asked (sym size, sym align, refl) a (shared_as a c.args.self.now c.make_shared-in-PoolUpper.new.self c.args.id c.in-PoolUpper.pool c.requirements-need.result.size (image_size c.args.info.now c.args.info.now.tiling) asked true c.in-Ok.shape c.args.info.now size same made)) c.make_shared-in-PoolUpper.ensures.made
 
 pub returns-in-PoolUpper-clause-allots : goal.returns-in-PoolUpper-clause-allots
 returns-in-PoolUpper-clause-allots c =
@@ -126,4 +126,4 @@ returns-in-PoolUpper-clause-allots c =
     let size : c.requirements-need.result.size ≡ image_size c.args.info.now c.args.info.now.tiling = ap (λ (n : Need). n.size) c.requirements-need.ensures.need ∙ ap (λ (m : ImageInfo). image_size m m.tiling) same in
     let align : c.requirements-need.result.align ≡ (of_image c.args.info.now).align = ap (λ (n : Need). n.align) c.requirements-need.ensures.need ∙ ap (λ (m : ImageInfo). (of_image m).align) same in
     let asked : Asked = record { size = c.requirements-need.result.size; align = c.requirements-need.result.align; kind = c.args.info.now.tiling } in
-    IfOk-weaker c.make_shared-in-PoolUpper.result _ _ (λ a made. λ past m fit. shared_allots c.args.self.now c.make_shared-in-PoolUpper.new.self (entry.Image c.args.id c.args.info.now) c.args.id (of_image c.args.info.now) (image_size c.args.info.now c.args.info.now.tiling) (Some c.args.info.now) (image_maker c.args.id c.args.info.now) c.in-PoolUpper.pool true c.in-PoolUpper.is asked (sym size, sym align, refl) a (shared_as a c.args.self.now c.make_shared-in-PoolUpper.new.self c.args.id c.in-PoolUpper.pool c.requirements-need.result.size (image_size c.args.info.now c.args.info.now.tiling) asked true c.in-Ok.shape c.args.info.now size same made)) c.make_shared-in-PoolUpper.ensures.made
+    IfOk-weaker c.make_shared-in-PoolUpper.result _ _ (λ a made. λ past m fit. shared_allots c.args.self.now c.make_shared-in-PoolUpper.new.self (entry.Image c.args.id c.args.info.now) c.args.id (of_image c.args.info.now) (image_size c.args.info.now c.args.info.now.tiling) (Some c.args.info.now) (creates_image c.args.id c.args.info.now) c.in-PoolUpper.pool true c.in-PoolUpper.is asked (sym size, sym align, refl) a (shared_as a c.args.self.now c.make_shared-in-PoolUpper.new.self c.args.id c.in-PoolUpper.pool c.requirements-need.result.size (image_size c.args.info.now c.args.info.now.tiling) asked true c.in-Ok.shape c.args.info.now size same made)) c.make_shared-in-PoolUpper.ensures.made

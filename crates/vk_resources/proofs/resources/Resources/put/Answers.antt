@@ -2,7 +2,7 @@ use Rattle.std.proofs.Common.{◌≡◌, ℕ, List, sym, subst}
 use Rattle.vk_model.specs.declared.resource.ImageInfo.{ImageInfo}
 use Rattle.vk_resources.specs.Held.{Held, IsConsistent, AreShaped, placed_in}
 use Rattle.vk_resources.specs.Inner.Steps.{PutReady}
-use Rattle.vk_resources.proofs.Placing.{other_id}
+use Rattle.vk_backing.proofs.Grown.{other_id}
 use Rattle.vk_resources.proofs.Putting.{put_places, put_bare, put_shaped}
 use Rattle.vk_resources.proofs.resources.Resources.put.Goals as goal
 
