@@ -31,7 +31,7 @@ some_kept t r xs h =
     let some = some_member t (filter r xs) h in
     member_passes t xs some.0 (filtered r xs some.0 some.1).0 some.2
 
--- what stands before an item that is kept and after it, and what is kept of both
+-- what comes before an item that is kept and after it, and what is kept of both
 record IsKept {A : Type 0} (r : A → Bool) (xs before : List A) (x : A) (after : List A) : Type 0 where
   first : List A
   last : List A
@@ -64,7 +64,7 @@ of_kept r written read part o =
     filter-append r d.first (d.last ++ read) ∙ rw (filter-append r d.last read, d.front, d.back) refl in
     record { before = d.first; after = d.last; whole = d.whole; meets = some_kept (extents_meet part) r (d.first ++ (d.last ++ read)) (ap (list_any (extents_meet part)) others ∙ o.meets) }
 
--- the same, in the words of a search
+-- the same, as a search says it
 pub found_kept : (r : Extent → Bool) (written read w u : List Extent) → w ≡ filter r written → u ≡ filter r read → (found : Option Extent) → IfSome found (IsOverlapping w u) → IfSome found (IsOverlapping written read)
 found_kept r written read w u w-is u-is found o =
     IfSome_then found o (λ part p. of_kept r written read part (subst (λ (l : List Extent). IsOverlapping l (filter r read) part) w-is (subst (λ (l : List Extent). IsOverlapping w l part) u-is p)))

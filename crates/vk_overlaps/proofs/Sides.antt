@@ -91,7 +91,7 @@ module _ (plane : Plane) (written read : List Extent) where
       go false e false f true g = absurd (true≢false (sym g ∙ none_on (is_on plane After) e))
       go false e false f false g = refl
 
--- what is found on one side, in the words of a search
+-- what is found on one side, as a search says it
 same_on : (r : Extent → Bool) (written read w u : List Extent) → w ≡ filter r written → u ≡ filter r read → parts_overlap w u ≡ parts_overlap (filter r written) (filter r read)
 same_on r written read w u e f = ap (λ x. parts_overlap x u) e ∙ ap (parts_overlap (filter r written)) f
 

@@ -32,7 +32,7 @@ const AXES: [Axis; 5] = [
 /// What divides the parts along an axis: those below a number from those at or above it.
 #[derive(Clone, Copy, Debug, PartialEq, Eq)]
 pub struct Plane {
-    /// The axis that it stands across.
+    /// The axis that it is across.
     pub axis: Axis,
     /// The first number after it.
     pub at: u64,

@@ -131,7 +131,7 @@ fn regions_near(
     Ok(near)
 }
 
-/// The rows of regions, region by region, unless one lies past what a `u64` tells or there are more than
+/// The rows of regions, region by region, unless one lies past what a `u64` holds or there are more than
 /// `MOST_ROWS`.
 fn rows_of(
     alloc: Global,
@@ -183,7 +183,7 @@ fn may_meet(alloc: Global, regions: &[BufferImageCopy], format: Format) -> Resul
     }
 }
 
-/// The bytes from the first to the last of each region, unless one ends past what a `u64` tells.
+/// The bytes from the first to the last of each region, unless one ends past what a `u64` holds.
 fn hulls_of(
     alloc: Global,
     regions: &[BufferImageCopy],

@@ -180,7 +180,7 @@ not_over tokens e = members_front (levels tokens) tokens.reader e
 pub more_members : (tokens : Tokens) → after_end_array tokens.reader ≡ None → no_member (ahead tokens) ≡ None
 more_members tokens e = let front = not_over tokens e in ap no_member front.1
 
--- the same where the tokens are told by another name
+-- the same where the tokens have another name
 pub front_of : (now before : Tokens) → now ≡ before → after_end_array before.reader ≡ None → (rest : List Data) × (ahead before ≡ next now ∷ rest)
 front_of now before same going = let front = not_over before going in (front.0, front.1 ∙ ap (λ (state : Tokens). next state ∷ front.0) (sym same))
 

@@ -29,12 +29,12 @@ pub all_read_at : (a b c : Option (List ℕ)) (bs buf : List ℕ) (n : ℕ) → 
 all_read_at a b c bs buf n e lt p h = all_read a b c bs p (subst (λ m. Consumes b c (take m buf)) e h.0) (h.1 e lt)
 
 -- a write of the rest took its front
-pub written_more : (a b c : Option (List ℕ)) (bytes : List ℕ) (sent n : ℕ) → Appends a b (take sent bytes)
-    → Appends b c (take n (take (length bytes - sent) (drop sent bytes))) → Appends a c (take (sent + n) bytes)
-written_more a b c bytes sent n p q =
-    let le : length (drop sent bytes) ≤ length bytes - sent = omega (arith, length-drop sent bytes) in
-    let rest : take (length bytes - sent) (drop sent bytes) ≡ drop sent bytes = take_all _ _ le in
-    rw (take-add sent n bytes) (Appends-trans a b c _ _ p (rw rest at q))
+pub written_more : (a b c : Option (List ℕ)) (bytes : List ℕ) (written n : ℕ) → Appends a b (take written bytes)
+    → Appends b c (take n (take (length bytes - written) (drop written bytes))) → Appends a c (take (written + n) bytes)
+written_more a b c bytes written n p q =
+    let le : length (drop written bytes) ≤ length bytes - written = omega (arith, length-drop written bytes) in
+    let rest : take (length bytes - written) (drop written bytes) ≡ drop written bytes = take_all _ _ le in
+    rw (take-add written n bytes) (Appends-trans a b c _ _ p (rw rest at q))
 
 -- a test that is not true is false
 pub not_true : (b : Bool) → (IsTrue b → ⊥) → b ≡ false

@@ -62,7 +62,7 @@ abbrev pub at_word : {A : Type 0} → List (List ℕ × A) → List ℕ → Opti
 at_word [] word = None
 at_word ((w, x) ∷ table) word = if bytes_eq word w then Some x else at_word table word
 
--- One of the words of a table.
+-- One of the names of a table.
 abbrev pub one_word : {A : Type 0} → List (List ℕ × A) → Reader A
 one_word table d = as_str d >>= at_word table
 
@@ -74,7 +74,7 @@ word_and_members d = array_members d >>= first_member as_str
 abbrev pub after_word : {A : Type 0} → List (List ℕ × Row A) → List ℕ → List Data → Option A
 after_word rows word ds = at_word rows word >>= λ row. only row ds
 
--- An array that begins with one of these words, and has exactly the members of its row after it.
+-- An array that begins with one of these names, and has exactly the members of its row after it.
 abbrev pub tagged : {A : Type 0} → List (List ℕ × Row A) → Reader A
 tagged rows d = word_and_members d >>= λ x. after_word rows x.0 x.1
 

@@ -117,7 +117,7 @@ image_region = members (from region <*> u32_value <*> u32_value <*> u32_value <*
 unfoldable pub color_value : Reader (List ℕ)
 color_value = members (from (λ r g b a. r ∷ g ∷ b ∷ a ∷ []) <*> u32_value <*> u32_value <*> u32_value <*> u32_value)
 
--- The words of commands and the members after each (profile).
+-- The names of commands and the members after each (profile).
 unfoldable pub command_rows : List (List ℕ × Row Cmd)
 command_rows
     -- buffer, offset, size, word
@@ -162,7 +162,7 @@ batch_value = members (from (λ waits commands signals. record { waits = waits; 
 unfoldable pub semaphore_value : Reader SemaphoreValue
 semaphore_value = members (from (λ semaphore value. record { semaphore = semaphore; value = value }) <*> u32_value <*> u64_value)
 
--- The words of places and the members after each (profile).
+-- The names of places and the members after each (profile).
 unfoldable pub place_rows : List (List ℕ × Row Place)
 place_rows
     -- memory type
@@ -179,7 +179,7 @@ place_rows
 unfoldable pub place_value : Reader Place
 place_value = tagged place_rows
 
--- The words of `VkSharingMode` (profile).
+-- The names of `VkSharingMode` (profile).
 unfoldable pub sharing_value : Reader Sharing
 sharing_value = one_word ((codes "exclusive", Exclusive) ∷ (codes "concurrent", Concurrent) ∷ [])
 
@@ -187,7 +187,7 @@ sharing_value = one_word ((codes "exclusive", Exclusive) ∷ (codes "concurrent"
 unfoldable pub format_value : Reader Format
 format_value = one_word ((codes "R8_UINT", R8Uint) ∷ (codes "R8G8_UINT", R8G8Uint) ∷ (codes "R8G8B8A8_UINT", R8G8B8A8Uint) ∷ (codes "R16_UINT", R16Uint) ∷ (codes "R32_UINT", R32Uint) ∷ (codes "R32G32_UINT", R32G32Uint) ∷ (codes "R32G32B32A32_UINT", R32G32B32A32Uint) ∷ [])
 
--- The words of `VkImageTiling` (profile).
+-- The names of `VkImageTiling` (profile).
 unfoldable pub tiling_value : Reader Kind
 tiling_value = one_word ((codes "optimal", Optimal) ∷ (codes "linear", Linear) ∷ [])
 
@@ -204,7 +204,7 @@ buffer id size usage sharing place = Buffer id (record { size = size; usage = re
 abbrev pub memory : ℕ → ℕ → ℕ → Entry
 memory id memory_type size = MemoryObject id (record { memory_type = memory_type; size = size })
 
--- The words of the algorithms of pools, as of `VmaPoolCreateFlags` (profile).
+-- The names of the algorithms of pools, as of `VmaPoolCreateFlags` (profile).
 unfoldable pub algorithm_value : Reader PoolKind
 algorithm_value = one_word ((codes "tlsf", Tlsf) ∷ (codes "linear", LinearPool) ∷ [])
 
@@ -212,7 +212,7 @@ algorithm_value = one_word ((codes "tlsf", Tlsf) ∷ (codes "linear", LinearPool
 abbrev pub pool : ℕ → PoolKind → ℕ → ℕ → ℕ → Entry
 pool id kind memory_type block_size block_limit = Pool id (record { kind = kind; memory_type = memory_type; block_size = block_size; block_limit = block_limit })
 
--- The words of entries and the members after each (profile).
+-- The names of entries and the members after each (profile).
 unfoldable pub entry_rows : List (List ℕ × Row Entry)
 entry_rows
     -- id, size, usage, sharing, place

@@ -40,7 +40,7 @@ fn are_supported(entries: &[Entry]) -> bool
     entries.iter().all(is_supported_entry)
 }
 
-/// Whether an entry is of a supported form: what it does, wherever it stands.
+/// Whether an entry is of a supported form: what it does, wherever it is in the trace.
 fn is_supported_entry(entry: &Entry) -> bool
     ensures { result ≡ is_supported_entry entry.now }
 {

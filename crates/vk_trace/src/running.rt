@@ -70,7 +70,7 @@ pub fn run<R: Read, W: Write, S: Scheduler>(
     ensures silent { IfErr result (λ e. IsBeforeWriting e
         → Keeps (W.contents writer.old.inner) (W.contents writer.new.inner)) }
     // A failed write has written the front of the answer.
-    ensures sent { (n : ℕ) → result ≡ Err (RunError.WriteFault n)
+    ensures written { (n : ℕ) → result ≡ Err (RunError.WriteFault n)
         → IfSome (R.remaining reader.old.inner) (λ input. (text : List ℕ) × (outcome : Outcome)
         × Reports config input text outcome × (n ≤ length text)
         × (writer.new.calls ≤ writer.old.calls + length text)
@@ -213,15 +213,15 @@ pub fn write_all<W: Write>(writer: &mut Watched<W>, bytes: &[u8]) -> Result<(), 
         × Appends (W.contents writer.old.inner) (W.contents writer.new.inner) (take n bytes.now)
         × IsTrue writer.new.failed) }
 {
-    let mut sent = 0usize;
+    let mut written = 0usize;
     for _ in 0..bytes.len() {
-        if sent >= bytes.len() {
+        if written >= bytes.len() {
             break;
         }
-        match writer.write(&bytes[sent..]) {
-            Err(_) => return Err(RunError::WriteFault(sent as u64)),
-            Ok(0) => return Err(RunError::WriteFault(sent as u64)),
-            Ok(n) => sent += n,
+        match writer.write(&bytes[written..]) {
+            Err(_) => return Err(RunError::WriteFault(written as u64)),
+            Ok(0) => return Err(RunError::WriteFault(written as u64)),
+            Ok(n) => written += n,
         }
     }
     Ok(())
