@@ -190,7 +190,7 @@ module _ (ns : List Node) (ts : List LineTally) (n : Node) (row : Row) (known ow
 
   module _ (at : ℕ) (found : index_in (lines_of ts) (class_on row.point.queue (act_of row.act)) ≡ Some at) (t u : LineTally) (here : slice_get ts at ≡ Some t) (line_is : u.line ≡ class_on row.point.queue (act_of row.act))
       (grows : (test : Node → Bool) → test n ≡ true → IsWhole (n ∷ ns) test → IsFront ns (lines_of ts) test t.front → IsFront (n ∷ ns) (lines_of ts) test u.front)
-      (count_is : u.count ≡ (if is_of_sets (class_on row.point.queue (act_of row.act)) then t.count else min (t.count + 1) (2 ^ 64 - 1))) where
+      (count_is : u.count ≡ (if is_of_sets (class_on row.point.queue (act_of row.act)) then t.count else min (t.count + 1) (2 ^ 32 - 1))) where
     passes : same_line u.line (class_of n) ≡ true
     passes = ap (λ (l : Line). same_line l (class_of n)) line_is ∙ ap (same_line line) class ∙ line_itself line
 
@@ -200,7 +200,7 @@ module _ (ns : List Node) (ts : List LineTally) (n : Node) (row : Row) (known ow
         inside : (a b : LineTally) → Some a ≡ Some b → a ≡ b
         inside a b e = cc
 
-    total : (b : Bool) → is_of_sets line ≡ b → (if b then t.count else min (t.count + 1) (2 ^ 64 - 1)) ≡ place (n ∷ ns) line (length (n ∷ ns))
+    total : (b : Bool) → is_of_sets line ≡ b → (if b then t.count else min (t.count + 1) (2 ^ 32 - 1)) ≡ place (n ∷ ns) line (length (n ∷ ns))
     total true e =
         let off : on_line line n ≡ false = none (line_of n) (no_line_of n line class e) in
         count_there ns ts tallied line at t found here ∙ sym (top line) ∙ sym (rw (off, and-false (nat_lt n.number (length (n ∷ ns)))) refl)

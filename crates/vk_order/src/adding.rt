@@ -43,7 +43,7 @@ fn stamps_of(
 {
     let mut more = Vec::new(alloc);
     for (index, row) in rows.iter().enumerate() {
-        let place = frontier.count(Line::of(row.point.queue, &row.act));
+        let place = frontier.next_place(Line::of(row.point.queue, &row.act));
         let known = &fronts[index];
         let clock = known.clock(alloc)?;
         let front = known.copied(alloc)?;

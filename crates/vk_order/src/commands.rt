@@ -58,7 +58,7 @@ impl Frontier {
         ensures { result ≡ clock_at (lines_of self.now.tallies.items) (clock_in self.now.front) (OfCommands queue) }
     {
         match line_index(self.tallies.as_slice(), Line::Commands(queue)) {
-            Some(at) => counts_at(self.front.counts.as_slice(), at).clock,
+            Some(at) => counts_at(self.front.counts.as_slice(), at).clock as usize,
             None => 0,
         }
     }

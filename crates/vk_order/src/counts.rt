@@ -12,17 +12,17 @@ use std::alloc::AllocError;
 #[derive(Clone, Copy)]
 pub struct Counts {
     /// Before it.
-    pub clock: usize,
+    pub clock: u32,
     /// Whose writes are available.
-    pub available: usize,
+    pub available: u32,
     /// And visible to reads by commands to which the nodes lead.
-    pub reads: usize,
+    pub reads: u32,
     /// And visible to writes by these.
-    pub writes: usize,
+    pub writes: u32,
     /// And visible to reads by the host.
-    pub host_reads: usize,
+    pub host_reads: u32,
     /// And visible to writes by the host.
-    pub host_writes: usize,
+    pub host_writes: u32,
 }
 
 /// To which accesses an act makes available writes of all bytes visible.
@@ -98,7 +98,7 @@ impl Counts {
 
     /// Of how many nodes of a line the writes are known: of elements of barriers those before, of
     /// others those available.
-    pub fn known(self, line: Line) -> usize
+    pub fn known(self, line: Line) -> u32
         ensures { result ≡ known_on line self }
     {
         if line.is_of_barriers() {
@@ -144,7 +144,7 @@ pub fn counts_at(all: &[Counts], index: usize) -> Counts
 }
 
 /// Of how many nodes of a line the writes are known by the counts at an index.
-pub fn known_at(all: &[Counts], index: usize, line: Line) -> usize
+pub fn known_at(all: &[Counts], index: usize, line: Line) -> u32
     ensures { result ≡ known_in all.now index line }
 {
     counts_at(all, index).known(line)
@@ -211,7 +211,7 @@ fn take_rest(all: &mut Vec<Counts>, other: &[Counts]) -> Result<(), AllocError>
 }
 
 /// Puts a clock at an index, up to which the list grows.
-pub fn put_clock(all: &mut Vec<Counts>, at: usize, clock: usize) -> Result<(), AllocError>
+pub fn put_clock(all: &mut Vec<Counts>, at: usize, clock: u32) -> Result<(), AllocError>
     requires { at < 2 ^ 63 }
     ensures counts { OnOk result ((i : ℕ) → slice_index_or all.new.items i zero_counts ≡ (if i == at then with_clock (slice_index_or all.old.items at zero_counts) clock else slice_index_or all.old.items i zero_counts)) }
     ensures len { OnOk result (vec_len all.new ≡ max (vec_len all.old) (at + 1)) }
@@ -222,7 +222,7 @@ pub fn put_clock(all: &mut Vec<Counts>, at: usize, clock: usize) -> Result<(), A
 }
 
 /// The same of what is available.
-pub fn put_available(all: &mut Vec<Counts>, at: usize, available: usize) -> Result<(), AllocError>
+pub fn put_available(all: &mut Vec<Counts>, at: usize, available: u32) -> Result<(), AllocError>
     requires { at < 2 ^ 63 }
     ensures counts { OnOk result ((i : ℕ) → slice_index_or all.new.items i zero_counts ≡ (if i == at then with_available (slice_index_or all.old.items at zero_counts) available else slice_index_or all.old.items i zero_counts)) }
     ensures len { OnOk result (vec_len all.new ≡ max (vec_len all.old) (at + 1)) }

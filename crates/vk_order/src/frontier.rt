@@ -41,7 +41,7 @@ use std::alloc::{AllocError, Global};
 #[derive(Drop)]
 pub struct Frontier {
     alloc: Global,
-    nodes: usize,
+    nodes: u32,
     pub(crate) tallies: Vec<LineTally>,
     names: Names,
     parts: Parts,
@@ -68,11 +68,18 @@ impl Frontier {
     pub fn nodes(&self) -> usize
         ensures { (ns : List Node) → IsFrontier self.now ns → result ≡ length ns }
     {
-        self.nodes
+        self.nodes as usize
     }
 
     /// How many nodes of a line there are: the place of the next one.
     pub fn count(&self, line: Line) -> usize
+        ensures { (ns : List Node) → IsFrontier self.now ns → result ≡ place ns line (length ns) }
+    {
+        self.next_place(line) as usize
+    }
+
+    /// The same in the width of a stamp.
+    pub(crate) fn next_place(&self, line: Line) -> u32
         ensures { (ns : List Node) → IsFrontier self.now ns → result ≡ place ns line (length ns) }
     {
         match line_index(self.tallies.as_slice(), line) {
@@ -285,7 +292,7 @@ impl Frontier {
         let line = Line::of(queue, &row.act);
         let part = Part {
             element,
-            number: self.nodes,
+            number: self.nodes as usize,
             queue,
             line,
             place: self.count(line),
@@ -313,12 +320,12 @@ impl Frontier {
     pub(crate) fn reaches(&self, part: &Part, spot: Spot) -> bool
         ensures { result ≡ (nat_lt spot.place (clock_at (lines_of self.now.tallies.items) part.now.heard.items spot.line) || same_line part.now.line spot.line && part.now.place == spot.place) }
     {
-        spot.place < self.heard(part, spot.line)
+        spot.place < self.heard(part, spot.line) as usize
             || part.line.is(spot.line) && part.place == spot.place
     }
 
     /// How many nodes of a line are known at a part.
-    fn heard(&self, part: &Part, line: Line) -> usize
+    fn heard(&self, part: &Part, line: Line) -> u32
         ensures { result ≡ clock_at (lines_of self.now.tallies.items) part.now.heard.items line }
     {
         let Some(at) = line_index(self.tallies.as_slice(), line) else {

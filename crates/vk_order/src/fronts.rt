@@ -81,7 +81,7 @@ impl Front {
     }
 
     /// The clock of it.
-    pub fn clock(&self, alloc: Global) -> Result<Vec<usize>, AllocError>
+    pub fn clock(&self, alloc: Global) -> Result<Vec<u32>, AllocError>
         ensures { IfOk result (λ clock. clock.items ≡ clock_in self.now) }
     {
         let clock = self.counts.iter().map(|own| own.clock).collect(alloc)?;

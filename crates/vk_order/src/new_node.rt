@@ -64,7 +64,7 @@ impl<'a> NewNode<'a> {
     pub fn follows(&self, line: Line, earlier: usize) -> bool
         ensures { (ns : List Node) (n m : Node) → IsNewNode ns n self.now → Contains ns m → line_of m ≡ Some line → place ns line m.number ≡ earlier → result ≡ before (n ∷ ns) m n }
     {
-        earlier < self.counts(line).clock
+        earlier < self.counts(line).clock as usize
     }
 
     /// How many commands of a queue are before the node: the first ones of the queue.
@@ -72,7 +72,7 @@ impl<'a> NewNode<'a> {
         ensures first { (ns : List Node) (n m : Node) → IsNewNode ns n self.now → Contains ns m → line_of m ≡ Some (OfCommands queue) → before (n ∷ ns) m n ≡ nat_lt (place ns (OfCommands queue) m.number) result }
         ensures there { (ns : List Node) (n : Node) → IsNewNode ns n self.now → result ≤ place ns (OfCommands queue) (length ns) }
     {
-        self.counts_of_commands(queue).clock
+        self.counts_of_commands(queue).clock as usize
     }
 
     /// Whether an access of this kind by the node sees the writes of the command of a queue before
@@ -121,12 +121,13 @@ impl<'a> NewNode<'a> {
         ensures { result ≡ count_in (if self.now.is_host then OnHost (access_of access) else Visible (access_of access)) (counts_on (lines_of self.now.tallies.now) self.now.front.counts.items line) }
     {
         let counts = self.counts(line);
-        match (self.is_host, access) {
+        let known = match (self.is_host, access) {
             (false, Access::Read) => counts.reads,
             (false, Access::Write) => counts.writes,
             (true, Access::Read) => counts.host_reads,
             (true, Access::Write) => counts.host_writes,
-        }
+        };
+        known as usize
     }
 
     /// The counts for the commands of a queue.

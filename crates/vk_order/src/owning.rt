@@ -38,14 +38,9 @@ pub fn own_front(
 
 /// Makes the counts of what is before a node of a line those of what comes after it, from the index
 /// of the line and how many nodes of the line came earlier: the node is counted too.
-fn count_own(
-    counts: &mut Vec<Counts>,
-    line: Line,
-    at: usize,
-    count: usize,
-) -> Result<(), AllocError>
+fn count_own(counts: &mut Vec<Counts>, line: Line, at: usize, count: u32) -> Result<(), AllocError>
     requires { at < 2 ^ 63 }
-    ensures { OnOk result ((ns : List Node) (ls : List AnyLine) (n : Node) → class_of n ≡ line → index_in ls line ≡ Some at → count ≡ place ns line n.number → count + 1 < 2 ^ 64 → length counts.old.items ≤ length ls → AreCounted ns ls n counts.old.items counts.new.items) }
+    ensures { OnOk result ((ns : List Node) (ls : List AnyLine) (n : Node) → class_of n ≡ line → index_in ls line ≡ Some at → count ≡ place ns line n.number → count + 1 < 2 ^ 32 → length counts.old.items ≤ length ls → AreCounted ns ls n counts.old.items counts.new.items) }
 {
     if line.is_of_sets() {
         return Ok(());
@@ -127,7 +122,7 @@ pub fn heard(
     alloc: Global,
     tallies: &[LineTally],
     counts: &[Counts],
-) -> Result<Vec<usize>, AllocError>
+) -> Result<Vec<u32>, AllocError>
     ensures { IfOk result (λ row. IsMerged (lines_of tallies.now) (map (λ c. c.clock) counts.now) (map (λ c. c.available) counts.now) row.items) }
 {
     let mut row = Vec::with_capacity(alloc, tallies.len())?;

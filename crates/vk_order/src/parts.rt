@@ -51,7 +51,7 @@ pub struct Part {
     pub(crate) earlier: usize,
     /// What is known at it, in the order of the lines: of commands and host entries how many are
     /// available, of elements how many are before it.
-    pub(crate) heard: Vec<usize>,
+    pub(crate) heard: Vec<u32>,
 }
 
 impl Part {

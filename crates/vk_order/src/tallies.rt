@@ -22,7 +22,7 @@ pub struct LineTally {
     /// The line.
     pub line: Line,
     /// How many nodes it has.
-    pub count: usize,
+    pub count: u32,
     /// What comes after all of them.
     pub front: Front,
 }

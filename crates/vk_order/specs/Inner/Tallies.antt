@@ -32,7 +32,7 @@ pub record IsTallied (ns : List Node) (ts : List LineTally) : Type 0 where
 -- A row comes next, as node n, and this is what comes before it.
 pub record IsComing (ns : List Node) (ls : List Line) (n : Node) (row : Row) (known : Front) : Type 0 where
   pub numbers : IsNumbered (n ∷ ns)
-  pub few : length ns + 1 < 2 ^ 64
+  pub few : length ns + 1 < 2 ^ 32
   pub point : n.point ≡ point_of row.point
   pub act : n.act ≡ act_of row.act
   pub front : IsFront ns ls (λ k. edge ns k n) known

@@ -41,7 +41,7 @@ loop-index-preserved c =
     let k = c.loop-index.index in
     let row : Row = c.index-rows-index.result in
     let f : Front = c.index-fronts-index.result in
-    let s : Stamp = record { place = c.count-place.result; clock = c.in_ok-clock.clock } in
+    let s : Stamp = record { place = c.next_place-place.result; clock = c.in_ok-clock.clock } in
     let lt : k < length rows = c.loop-index-test.true in
     let low : k < length fronts = (let e = c.requires.lengths in omega arith) in
     let at : slice_get rows k ≡ Some row = slice_get_read rows (length rows) k row refl lt c.index-rows-index.is in
@@ -58,7 +58,7 @@ loop-index-preserved c =
           let known : IsFront all ls (λ m. edge all m (node_of (length all) row)) f =
           subst (λ (l : List Node). IsFront l ls (λ m. edge l m (node_of (length l) row)) f) (sym same)
           (front_now ns rows can front.numbers k row at ls f (are k row f at there (length (nodes_after (nodes_after [] old) (take k rows))))) in
-          let count : s.place ≡ place all (class_on row.point.queue (act_of row.act)) (length all) = c.count-place.ensures all before.1 ∙ ap (λ (l : Line). place all l (length all)) c.of.ensures in
+          let count : s.place ≡ place all (class_on row.point.queue (act_of row.act)) (length all) = c.next_place-place.ensures all before.1 ∙ ap (λ (l : Line). place all l (length all)) c.of.ensures in
           let clock : s.clock.items ≡ clock_in f = c.in_ok-clock.ensures in
           let one = stamped_one (old ++ take k rows) (stamps ++ c.loop-index.more.items) ls row s f before.0 known clock count (c.requires.listed k row at) in
           let next : IsFrontier c.add.new.self (node_of (length all) row ∷ all) =

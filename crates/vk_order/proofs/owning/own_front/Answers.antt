@@ -29,7 +29,7 @@ returns c = λ ns n coming tallied.
     let own_line : t.line ≡ line = line_there ts line c.args.at t c.requires here in
     let total : t.count ≡ place ns line (length ns) = count_there ns ts tallied line c.args.at t c.requires here in
     let count : t.count ≡ place ns line n.number = total ∙ ap (place ns line) (sym coming.numbers.0) in
-    let low : t.count + 1 < 2 ^ 64 = (let le = place_within ns line (length ns) in let few = coming.few in omega arith) in
+    let low : t.count + 1 < 2 ^ 32 = (let le = place_within ns line (length ns) in let few = coming.few in omega arith) in
     let short : length known.counts.items ≤ length ls = (let le = coming.front.clock.short in let e = length-map known.counts.items (λ d. d.clock) in omega arith) in
     let made_available : AreAvailable ns ls row.point.queue (act_of row.act) known.counts.items c.count_available.new.counts.items = c.in_ok-count_available.ensures ns tallied (let e = lines_length ts in omega arith) in
     let made_visible : AreVisible ls (shows_of (act_of row.act)) c.count_available.new.counts.items c.show.new.counts.items = c.show.ensures in

@@ -28,11 +28,11 @@ returns-clause-kept c = λ ns n row known found coming tallied is_own.
     let low : at < length ts = index_low ts line at found in
     let here : slice_get ts at ≡ Some t = slice_get_read ts (length ts) at t refl low c.index_mut-tally.ensures.value in
     let line_is : t.line ≡ line = line_there ts line at t found here in
-    let count : u.count ≡ (if is_of_sets t.line then t.count else min (t.count + 1) (2 ^ 64 - 1)) =
+    let count : u.count ≡ (if is_of_sets t.line then t.count else min (t.count + 1) (2 ^ 32 - 1)) =
     elim c.if-is_of_sets.branch [
       | then-is_of_sets w ↦ w.count-is ∙ sym (rw (sym c.is_of_sets.ensures ∙ w.if-is_of_sets.true) refl)
       | else-is_of_sets w ↦ w.count-is ∙ w.saturating_add-count.ensures ∙ sym (rw (sym c.is_of_sets.ensures ∙ w.if-is_of_sets.false) refl)
     ] in
     tallied_more ns ts n row known c.args.own.now coming tallied at found t u here line_is
     (λ test passes whole is. c.in_ok-grow.ensures ns (lines_of ts) test n coming.numbers passes whole is is_own)
-    (count ∙ ap (λ (l : Line). if is_of_sets l then t.count else min (t.count + 1) (2 ^ 64 - 1)) line_is)
+    (count ∙ ap (λ (l : Line). if is_of_sets l then t.count else min (t.count + 1) (2 ^ 32 - 1)) line_is)

@@ -4,7 +4,7 @@ use Rattle.vk_order.specs.declared.tallies.LineTally.{LineTally}
 use Rattle.vk_order.specs.Inner.Places.{index_in}
 use Rattle.vk_order.specs.Inner.Tallies.{lines_of}
 use Rattle.vk_order.proofs.OwnLemmas.{index_low, count_there, no_place}
-use Rattle.vk_order.proofs.frontier.Frontier.count.Goals as goal
+use Rattle.vk_order.proofs.frontier.Frontier.next_place.Goals as goal
 
 pub returns-in-Some : goal.returns-in-Some
 returns-in-Some c = λ ns is.
