@@ -8,7 +8,6 @@ ghost use Rattle.vk_model.specs.Sync.Node.{Node, with_acts, command_acts, Depend
 ghost use Rattle.vk_model.specs.Sync.Before.{before, IsNumbered};
 ghost use Rattle.vk_order.specs.PointViews.{point_of, action_of};
 ghost use Rattle.vk_order.specs.Frontiers.{IsFrontier, IsNewNode};
-ghost use Rattle.vk_order.specs.Inner.Kept.{clock_at};
 ghost use Rattle.vk_model.specs.Trace.Point.{Point as AnyPoint};
 ghost use Rattle.vk_order.specs.declared.lines.Line.TheVariants.{Elements as OfElements};
 ghost use Rattle.vk_order.specs.Lines.{same_bit};

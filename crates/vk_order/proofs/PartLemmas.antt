@@ -21,12 +21,12 @@ use Rattle.vk_order.specs.declared.lines.Line.TheVariants.{Commands as OfCommand
 use Rattle.vk_order.specs.declared.parts.Part.{Part}
 use Rattle.vk_order.specs.declared.parts.Parts.{Parts}
 use Rattle.vk_order.specs.Lines.{has_transfer, line_of, line_on, class_on, same_line, place}
-use Rattle.vk_order.specs.Limited.{is_limited}
+use Rattle.vk_order.specs.Limited.{is_limited, part_of}
 use Rattle.vk_order.specs.Inner.Clocks.{Clock}
 use Rattle.vk_order.specs.Inner.Kept.{clock_at, IsKeptJoin, IsLonger}
 use Rattle.vk_order.specs.Inner.Leads.{is_of_barriers}
 use Rattle.vk_order.specs.Inner.Rows.{Available, makes_queue_available, IsKnown, IsRow, IsKnownRow, IsKeptRow, IsMerged}
-use Rattle.vk_order.specs.Inner.Parts.{part_of, IsPart, parts_at, AreInOrder, AreBelow, AreFrom, AreParts}
+use Rattle.vk_order.specs.Inner.Parts.{IsPart, parts_at, AreInOrder, AreBelow, AreFrom, AreParts}
 use Rattle.vk_order.proofs.LinePrefixes.{node, linked, of_linked, to_linked, command_line}
 use Rattle.vk_order.proofs.ClockLemmas.{line_same, line_itself, place-grows, place-less, edges_join}
 use Rattle.std.proofs.lemmas.List.{take_all, length-drop}

@@ -20,13 +20,13 @@ use Rattle.vk_order.specs.declared.lines.Line.{Line}
 use Rattle.vk_order.specs.declared.new_node.NewNode.{NewNode}
 use Rattle.vk_order.specs.declared.parts.Part.{Part}
 use Rattle.vk_order.specs.Lines.{line_of, class_of, same_line, place}
-use Rattle.vk_order.specs.Limited.{is_limited, IsMark, Reaches, IsWrite}
+use Rattle.vk_order.specs.Limited.{is_limited, IsMark, Reaches, IsWrite, part_of}
 use Rattle.vk_order.specs.Wide.{is_answered}
 use Rattle.vk_order.specs.Inner.Kept.{clock_at}
 use Rattle.vk_order.specs.Inner.Leads.{ends_in_transfer}
 use Rattle.vk_order.specs.Inner.Rows.{makes_all_available, makes_available, Visible, OnHost, KnowsOne}
 use Rattle.vk_order.specs.Inner.Fronts.{row_in}
-use Rattle.vk_order.specs.Inner.Parts.{part_of, IsPart, asked_of, opens, Serves}
+use Rattle.vk_order.specs.Inner.Parts.{IsPart, asked_of, opens, Serves}
 use Rattle.vk_order.specs.Frontiers.{IsNewNode}
 use Rattle.vk_order.proofs.Arrange.{or-false}
 use Rattle.vk_order.proofs.LinePrefixes.{node}

@@ -24,14 +24,14 @@ use Rattle.vk_order.specs.declared.new_node.NewNode.{NewNode}
 use Rattle.vk_order.specs.declared.units.Units.{Units}
 use Rattle.vk_order.specs.declared.units.Units.TheVariants as units
 use Rattle.vk_order.specs.Frontiers.{IsFrontier, IsNewNode}
-use Rattle.vk_order.specs.Limited.{IsMark, IsWrite}
+use Rattle.vk_order.specs.Limited.{IsMark, IsWrite, part_of}
 use Rattle.vk_order.specs.SeenWrites.{SaysSeen, SaysSeenAt}
 use Rattle.vk_order.specs.Units.{unit_byte, units_resource, IsOfUnit}
 use Rattle.vk_order.specs.Wide.{access_of, is_answered}
 use Rattle.vk_order.specs.Lines.{same_line}
 use Rattle.vk_order.specs.Inner.Kept.{clock_at}
 use Rattle.vk_order.specs.Inner.Tallies.{lines_of}
-use Rattle.vk_order.specs.Inner.Parts.{IsPart, part_of, parts_at, AreFrom, AreInOrder, asked_of, opens, Serves}
+use Rattle.vk_order.specs.Inner.Parts.{IsPart, parts_at, AreFrom, AreInOrder, asked_of, opens, Serves}
 use Rattle.vk_order.specs.Inner.Alone.{AlwaysShows, AlwaysMarks}
 use Rattle.vk_order.specs.Inner.Rows.{KnowsOne}
 use Rattle.vk_order.proofs.KnownRows.{at_old, old_edge}

@@ -1,7 +1,8 @@
 -- What is seen through dependencies on parts of memory too: buffers' ranges and images' subresources.
-use Rattle.std.specs.Prelude.{◌≡◌, ◌⊎◌, ◌↔◌, ◌∷◌, List, Bool, not, ◌&&◌, false, IsTrue, Contains}
+use Rattle.std.specs.Prelude.{◌≡◌, ◌⊎◌, ◌↔◌, ◌∷◌, ℕ, List, Option, None, Bool, not, ◌&&◌, false, IsTrue, Contains}
 use Rattle.vk_model.specs.World.Bytes.{Byte}
-use Rattle.vk_model.specs.Sync.Node.{Node, Act}
+use Rattle.vk_model.specs.World.Ownership.{named_by}
+use Rattle.vk_model.specs.Sync.Node.{Node, Act, Depends}
 use Rattle.vk_model.specs.Sync.Edge.{edge, is_host, is_command, is_element}
 use Rattle.vk_model.specs.Sync.Before.{before, IsNumbered}
 use Rattle.vk_model.specs.Sync.Seen.{Access, seen, makes_writes_available, makes_writes_visible, command_mask, host_mask, needs_invalidation, to_host}
@@ -11,6 +12,11 @@ use Rattle.vk_order.specs.Inner.Rows.{Visible, OnHost, IsKnown, KnowsOne}
 -- Whether an act is a dependency on a part of memory (Vulkan, "Buffer Memory Barriers" and "Image Memory Barriers").
 abbrev pub is_limited : Act → Bool
 is_limited a = not (is_wide a)
+
+-- The resource that a dependency is on, where it is on a part of memory.
+abbrev pub part_of : Act → Option ℕ
+part_of (Depends r e) = named_by e
+part_of _ = None
 
 -- Node m marks a write of a byte by node w: it is w, or a dependency on a part of memory that makes the write of command w available.
 abbrev pub IsMark : (Byte → Bool) → List Node → Byte → Node → Node → Type 0

@@ -12,7 +12,8 @@ ghost use Rattle.vk_order.specs.PointViews.{act_of};
 ghost use Rattle.vk_order.specs.Bytes.{byte_of};
 ghost use Rattle.vk_order.specs.Lines.{line_of, has_transfer, same_line, place};
 ghost use Rattle.vk_order.specs.Wide.{access_of};
-ghost use Rattle.vk_order.specs.Inner.Parts.{part_of, IsPart, parts_at, AreInOrder, AreFrom, AreBelow, AreParts, IsNewPart};
+ghost use Rattle.vk_order.specs.Limited.{part_of};
+ghost use Rattle.vk_order.specs.Inner.Parts.{IsPart, parts_at, AreInOrder, AreFrom, AreBelow, AreParts, IsNewPart};
 
 use crate::access::Access;
 use crate::acts::{TRANSFERS, destination_stages, source_stages};

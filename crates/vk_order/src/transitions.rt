@@ -10,9 +10,9 @@ ghost use Rattle.vk_order.specs.Bytes.{byte_of};
 ghost use Rattle.vk_order.specs.Lines.{line_of, place};
 ghost use Rattle.vk_order.specs.Limited.{is_limited, Reaches, IsWrite};
 ghost use Rattle.vk_order.specs.Inner.Alone.{AlwaysMarks, NeverMarks};
-ghost use Rattle.vk_order.specs.Inner.Parts.{parts_at, AreInOrder, AreFrom, IsPart, IsOwnPart};
+ghost use Rattle.vk_order.specs.Inner.Parts.{parts_at, AreInOrder, AreFrom, IsPart};
 ghost use Rattle.vk_order.specs.Inner.Tallies.{lines_of};
-ghost use Rattle.vk_order.specs.Frontiers.{IsFrontier, IsNewNode, IsFrom};
+ghost use Rattle.vk_order.specs.Frontiers.{IsFrontier, IsNewNode, IsFrom, MayBeKeptOf};
 ghost use Rattle.vk_order.specs.SeenWrites.{SaysSeenAt};
 ghost use Rattle.vk_order.specs.Units.{HaveNumbers, unit_byte, units_resource};
 
@@ -36,7 +36,7 @@ impl Frontier {
         new_node: &NewNode<'_>,
     ) -> Result<Option<Part>, AllocError>
         requires { IsFrom self.now new_node.now }
-        ensures { IfOk result (λ part. (ns : List Node) (n : Node) → IsFrontier self.now ns → n ≡ record { number = length ns; point = point_of point.now; act = act_of act.now } → IsNewNode ns n new_node.now → IsOwnPart ns (lines_of self.now.tallies.items) n part) }
+        ensures { IfOk result (λ part. (ns : List Node) (n : Node) → IsFrontier self.now ns → n ≡ record { number = length ns; point = point_of point.now; act = act_of act.now } → IsNewNode ns n new_node.now → MayBeKeptOf self.now ns n part) }
     {
         let row = Row {
             point: *point,

@@ -4,7 +4,6 @@ use Rattle.std.specs.Ordering.{nat_cmp}
 use Rattle.std.specs.BTreeMap.{get}
 use Rattle.std.specs.Option.{option_map_or}
 use Rattle.vk_model.specs.World.Bytes.{Byte}
-use Rattle.vk_model.specs.World.Ownership.{named_by}
 use Rattle.vk_model.specs.Sync.Node.{Node, Act, Hosts, Runs, Depends, Barrier}
 use Rattle.vk_model.specs.Sync.Edge.{edge}
 use Rattle.vk_model.specs.Sync.Before.{before}
@@ -14,14 +13,9 @@ use Rattle.vk_order.specs.declared.lines.Line.TheVariants.{Commands as OfCommand
 use Rattle.vk_order.specs.declared.parts.Part.{Part}
 use Rattle.vk_order.specs.declared.parts.Parts.{Parts}
 use Rattle.vk_order.specs.Lines.{line_of, place}
-use Rattle.vk_order.specs.Limited.{is_limited, Reaches}
+use Rattle.vk_order.specs.Limited.{is_limited, part_of, Reaches}
 use Rattle.vk_order.specs.Inner.Kept.{clock_at}
 use Rattle.vk_order.specs.Inner.Rows.{Knowledge, Available, Visible, OnHost, IsKnownRow, KnowsOne}
-
--- The resource that a dependency is on, where it is on a part of memory.
-abbrev pub part_of : Act → Option ℕ
-part_of (Depends r e) = named_by e
-part_of _ = None
 
 -- What is kept of node m, a dependency on a part of memory.
 pub record IsPart (ns : List Node) (ls : List Line) (m : Node) (x : Part) : Type 0 where
@@ -63,11 +57,6 @@ pub record AreParts (ns : List Node) (ls : List Line) (p : Parts) : Type 0 where
 abbrev pub IsNewPart : List Node → List Line → Node → Option (ℕ × Part) → Type 0
 IsNewPart ns ls n None = part_of n.act ≡ None
 IsNewPart ns ls n (Some p) = (part_of n.act ≡ Some p.0) × IsPart (n ∷ ns) ls n p.1
-
--- What is kept of node n, which comes next, where it is a dependency on a part of memory.
-abbrev pub IsOwnPart : List Node → List Line → Node → Option Part → Type 0
-IsOwnPart ns ls n None = part_of n.act ≡ None
-IsOwnPart ns ls n (Some x) = IsPart (n ∷ ns) ls n x
 
 -- What an access by an act asks of nodes before it.
 abbrev pub asked_of : Act → Access → Knowledge

@@ -1,6 +1,6 @@
 use Rattle.std.proofs.Common.{ap, ◌∙◌}
 use Rattle.vk_model.specs.Sync.Node.{Node}
-use Rattle.vk_order.specs.Inner.Parts.{part_of}
+use Rattle.vk_order.specs.Limited.{part_of}
 use Rattle.vk_order.specs.Inner.Tallies.{lines_of}
 use Rattle.vk_order.proofs.PartLemmas.{parts_same}
 use Rattle.vk_order.proofs.frontier.Frontier.keep_part.Goals as goal

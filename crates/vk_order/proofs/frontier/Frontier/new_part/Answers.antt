@@ -13,7 +13,7 @@ use Rattle.vk_order.specs.Lines.{class_on}
 use Rattle.vk_order.specs.Inner.Fronts.{clock_in, row_in}
 use Rattle.vk_order.specs.Inner.Rows.{Available, IsMerged}
 use Rattle.vk_order.specs.Inner.Tallies.{lines_of}
-use Rattle.vk_order.specs.Inner.Parts.{part_of}
+use Rattle.vk_order.specs.Limited.{part_of}
 use Rattle.vk_order.proofs.PartLemmas.{part_new}
 use Rattle.vk_order.proofs.frontier.Frontier.new_part.Goals as goal
 
