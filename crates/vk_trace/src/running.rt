@@ -42,7 +42,8 @@ const MOST_BYTES: usize = 16_777_216;
 
 const MOST_READS: u64 = 1_048_576;
 
-const CHUNK: usize = 65_536;
+/// How many bytes are asked of a reader at once: few pages, since each is zeroed for a small trace too.
+const CHUNK: usize = 16_384;
 
 /// Reads a trace to its end, looks for a broken rule, replays it where there is none, and writes the
 /// text of the answer: the bytes that the trace means, up to the first entry that finds no room in heaps
