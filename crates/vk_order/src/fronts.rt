@@ -27,6 +27,14 @@ impl Front {
         }
     }
 
+    /// The same, with room for the counts of so many lines.
+    fn with_room(alloc: Global, lines: usize) -> Result<Front, AllocError>
+        ensures { IfOk result (λ front. (ns : List Node) (ls : List AnyLine) → IsFront ns ls (λ k. false) front) }
+    {
+        let counts = Vec::with_capacity(alloc, lines)?;
+        Ok(Front { counts })
+    }
+
     /// Comes after no node.
     pub fn empty(&mut self)
         ensures { (ns : List Node) (ls : List AnyLine) → IsFront ns ls (λ k. false) self.new }
@@ -92,7 +100,7 @@ impl Front {
     pub fn copied(&self, alloc: Global) -> Result<Front, AllocError>
         ensures { IfOk result (λ copy. (ns : List Node) (ls : List AnyLine) (test : Node → Bool) → IsFront ns ls test self.now → IsFront ns ls test copy) }
     {
-        let mut copy = Front::new(alloc);
+        let mut copy = Front::with_room(alloc, self.counts.len())?;
         copy.join(self)?;
         Ok(copy)
     }
@@ -103,7 +111,7 @@ pub fn named_with(alloc: Global, named: Option<&Front>, own: &Front) -> Result<F
     ensures { IfOk result (λ more. (ns : List Node) (ls : List AnyLine) (test : Node → Bool) (n : Node) → IsNumbered (n ∷ ns) → test n ≡ true → IsWhole (n ∷ ns) test → IsNamed ns ls test (option_copied named.entry) → IsOwnFront ns ls n own.now → IsNamed (n ∷ ns) ls test (Some more)) }
 {
     let Some(front) = named else {
-        let mut more = Front::new(alloc);
+        let mut more = Front::with_room(alloc, own.counts.len())?;
         more.join(own)?;
         return Ok(more);
     };

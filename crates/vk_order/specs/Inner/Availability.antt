@@ -5,7 +5,7 @@ use Rattle.vk_model.specs.World.Bytes.{Byte}
 use Rattle.vk_model.specs.Sync.Node.{Node, Act, Hosts, Signals, Runs, Depends, SetOf, AwaitOf, same_node}
 use Rattle.vk_model.specs.Sync.Edge.{is_submit, signals_all}
 use Rattle.vk_model.specs.Sync.Before.{before}
-use Rattle.vk_model.specs.Sync.Seen.{Access, Read, makes_writes_available, makes_writes_visible, command_mask, host_mask, to_host, is_wait, flushes, invalidates}
+use Rattle.vk_model.specs.Sync.Seen.{Access, Read, command_mask, host_mask, to_host, is_wait, flushes, invalidates}
 use Rattle.vk_order.specs.declared.acts.Row.{Row}
 use Rattle.vk_order.specs.declared.reads.Reader.{Reader}
 use Rattle.vk_order.specs.declared.writes.Write.{Write}

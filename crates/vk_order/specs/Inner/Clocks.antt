@@ -1,10 +1,8 @@
 -- Clocks: how many nodes of each line are before a node.
-use Rattle.std.specs.Prelude.{◌≡◌, ◌↔◌, ℕ, ◌+◌, ◌<◌, ◌≤◌, max, List, [], ◌∷◌, length, Bool, true, false, not, ◌&&◌, ◌==◌, nat_lt, if◌then◌else◌, IsTrue, Contains, Some}
-use Rattle.vk_model.specs.Basics.{holds}
+use Rattle.std.specs.Prelude.{◌≡◌, ◌↔◌, ℕ, ◌+◌, ◌<◌, ◌≤◌, max, List, length, Bool, if◌then◌else◌, IsTrue, Contains, Some}
 use Rattle.vk_model.specs.Sync.Node.{Node}
 use Rattle.vk_model.specs.Sync.Before.{before}
 use Rattle.vk_order.specs.declared.lines.Line.{Line}
-use Rattle.vk_order.specs.declared.lines.Line.TheVariants.{Host as OfHost, Commands as OfCommands, Signals as OfSignals, Elements as OfElements, Sets as OfSets, Waits as OfWaits}
 use Rattle.vk_order.specs.Lines.{line_of, on_line, place}
 use Rattle.vk_order.specs.Prefixes.{Leads}
 
