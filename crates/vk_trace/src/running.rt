@@ -42,8 +42,11 @@ const MOST_BYTES: usize = 16_777_216;
 
 const MOST_READS: u64 = 1_048_576;
 
-/// How many bytes are asked of a reader at once: few pages, since each is zeroed for a small trace too.
-const CHUNK: usize = 16_384;
+/// How many bytes are asked of a reader at first: all pages of a chunk are zeroed, for a small trace too.
+const FIRST_CHUNK: usize = 4_096;
+
+/// How many are asked for at once where those were all there.
+const CHUNK: usize = 65_536;
 
 /// Reads a trace to its end, looks for a broken rule, replays it where there is none, and writes the
 /// text of the answer: the bytes that the trace means, up to the first entry that finds no room in heaps
@@ -110,6 +113,17 @@ fn zeroes(alloc: Global, size: usize) -> Result<Vec<u8>, AllocError>
     vec![in alloc; 0u8; size]
 }
 
+/// The chunk for the next read, after one of so many bytes: a longer one where it was filled.
+fn next_chunk(alloc: Global, chunk: Vec<u8>, read: usize) -> Result<Vec<u8>, AllocError>
+    ensures { IfOk result (λ next. vec_len chunk ≤ vec_len next) }
+{
+    if read == chunk.len() && read < CHUNK {
+        let next = zeroes(alloc, CHUNK)?;
+        return Ok(next);
+    }
+    Ok(chunk)
+}
+
 /// Reads the input of a trace to its end.
 ///
 /// # Errors
@@ -127,7 +141,7 @@ pub fn read_all<R: Read>(alloc: Global, reader: &mut Watched<R>) -> Result<Vec<u
         ⊎ IfSome (R.remaining reader.old.inner) (λ input. 16777216 < length input) }
 {
     let mut input = Vec::new(alloc);
-    let mut chunk = zeroes(alloc, CHUNK)?;
+    let mut chunk = zeroes(alloc, FIRST_CHUNK)?;
     for _ in 0..MOST_READS {
         match reader.read(&mut chunk) {
             Err(_) => return Err(RunError::ReadFault),
@@ -137,6 +151,7 @@ pub fn read_all<R: Read>(alloc: Global, reader: &mut Watched<R>) -> Result<Vec<u
                     return Err(RunError::TooLong);
                 }
                 input.extend_from_slice(&chunk[..n])?;
+                chunk = next_chunk(alloc, chunk, n)?;
             }
         }
     }

@@ -8,7 +8,7 @@ invariant-loop g l = record {
   read : Consumes (g.R.Read.remaining l.fn.reader.inner) (g.R.Read.remaining l.reader.inner) l.input.items;
   within : length l.input.items ≤ 16777216;
   rounds : l.counter ≤ length l.input.items;
-  room : length l.chunk.items ≡ 16384;
+  room : 0 < length l.chunk.items;
   calls : counted l.reader.calls 0 ≡ counted l.fn.reader.calls l.counter;
   most : l.reader.calls ≤ l.fn.reader.calls + l.counter;
   known : 0 < l.counter → l.reader.calls < 2 ^ 64;
