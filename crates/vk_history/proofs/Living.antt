@@ -3,6 +3,7 @@ pub mod Counting
 pub mod LiveIds
 pub mod Mappings
 pub mod Occupants
+pub mod Residents
 pub mod Defrags
 pub mod Entries
 pub mod Bound

@@ -7,6 +7,7 @@ pub mod Contents
 pub mod Changes
 pub mod Layouts
 pub mod Counted
+pub mod Residents
 pub mod Uses
 pub mod Owners
 pub mod Bound

@@ -20,6 +20,7 @@ use Rattle.vk_history.specs.declared.events.EventSet.{EventSet}
 use Rattle.vk_history.specs.declared.events.Events.{Events}
 use Rattle.vk_history.specs.Bound.{AreBound}
 use Rattle.vk_history.specs.Counted.{AreMappings, AreOccupants, AreDefrags}
+use Rattle.vk_history.specs.Residents.{AreResidents}
 use Rattle.vk_history.specs.Ended.{AreEndings}
 use Rattle.vk_history.specs.Layouts.{AreCurrent}
 use Rattle.vk_history.specs.Made.{Numbered, last_creator, Set, last_set}
@@ -62,6 +63,7 @@ pub record IsTabled (tables : Tables) (past : Past) : Type 0 where
   pub endings : AreEndings tables.endings past
   pub mappings : AreMappings tables.mappings past
   pub occupants : AreOccupants tables.occupants past
+  pub residents : AreResidents tables.residents past
   pub bound : AreBound tables.bound past
   pub defrags : AreDefrags tables.defrags past
   pub semaphores : AreSemaphores tables.semaphores past

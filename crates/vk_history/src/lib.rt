@@ -31,6 +31,7 @@ mod passes;
 mod passing;
 mod places;
 mod ranges;
+mod residents;
 mod resource_contents;
 mod searches;
 mod semaphores;

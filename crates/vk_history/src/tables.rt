@@ -15,6 +15,7 @@ use crate::mappings::Mappings;
 use crate::objects::Objects;
 use crate::occupants::Occupants;
 use crate::owners::Owners;
+use crate::residents::Residents;
 use crate::semaphores::Semaphores;
 use crate::uses::Uses;
 use std::alloc::{AllocError, Global};
@@ -32,6 +33,8 @@ pub struct Tables<'a> {
     pub mappings: Mappings,
     /// How many live resources memory objects and pools have.
     pub occupants: Occupants,
+    /// Which resources were created in each pool.
+    pub residents: Residents,
     /// What is bound in each memory object.
     pub bound: BoundMemories,
     /// The defragmentations that haven't ended, and the pass that is open.
@@ -62,6 +65,7 @@ impl<'a> Tables<'a> {
             endings: Endings::new(alloc),
             mappings: Mappings::new(alloc),
             occupants: Occupants::new(alloc),
+            residents: Residents::new(alloc),
             bound: BoundMemories::new(alloc),
             defrags: Defrags::new(alloc),
             semaphores: Semaphores::new(alloc),
@@ -101,6 +105,7 @@ pub fn note<'a>(tables: &mut Tables<'a>, point: &Point<'a>) -> Result<(), AllocE
         .contents
         .note(point, spot, &tables.objects, &tables.frontier)?;
     tables.uses.note(point, &tables.frontier)?;
+    tables.residents.note(point)?;
     tables.frontier.advance(point)?;
     Ok(())
 }

@@ -1,4 +1,3 @@
-pub mod Unbroken
 pub mod Busy
 pub mod Named
 pub mod Among

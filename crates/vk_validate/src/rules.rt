@@ -1,11 +1,10 @@
-ghost use Rattle.std.specs.Prelude.{◌≡◌, ◌∷◌, IfOk, IsTrue, None};
+ghost use Rattle.std.specs.Prelude.{◌≡◌, ◌∷◌, IfOk, None};
 ghost use Rattle.std.specs.List.{find};
 ghost use Rattle.vk_model.specs.Trace.Structure.{IsOrdered};
 ghost use Rattle.vk_model.specs.Trace.Point.{Past, Host, Run, Point as AnyPoint};
 ghost use Rattle.vk_model.specs.Rules.Table as table;
 ghost use Rattle.vk_model.specs.Rules.Hazards.{breaks_in_use};
 ghost use Rattle.vk_order.specs.PointViews.{action_of, point_of};
-ghost use Rattle.vk_history.specs.Supported.{is_supported_action};
 ghost use Rattle.vk_history.specs.PointViews.{past};
 ghost use Rattle.vk_history.specs.Judged.{early_rules, late_rules, first_among};
 ghost use Rattle.vk_validate.specs.Inner.Early.{breaks_early, AreSearched};
@@ -39,6 +38,8 @@ pub(crate) struct Searched {
     pub(crate) is_unordered: bool,
     /// OWNER_PAIR.
     pub(crate) is_unpaired: bool,
+    /// PASS_BUSY.
+    pub(crate) is_pass_busy: bool,
 }
 
 /// The rules that are judged before the accesses of a point, in the order of their tests.
@@ -134,7 +135,6 @@ const ON_SEMAPHORES: [Rule; 3] = [Rule::NewId, Rule::OwnerPair, Rule::SignalOrde
 
 /// The first rule of the table that a point breaks. The only error is want of memory.
 pub fn first_rule(history: &History<'_>, point: &Point<'_>) -> Result<Option<Rule>, AllocError>
-    requires supported { IsTrue (is_supported_action (action_of point.now.action)) }
     requires ordered { IsOrdered (point_of point.now ∷ past history.now) }
     ensures { IfOk result (λ r. r ≡ table.first_rule (past history.now) (point_of point.now)) }
 {
@@ -155,15 +155,16 @@ fn search(history: &History<'_>, point: &Point<'_>) -> Result<Searched, AllocErr
     let is_overlapping = ranges::breaks_overlap(history, point)?;
     let is_unordered = synchronization::breaks_signal_order(history, point)?;
     let is_unpaired = owners::breaks_owner_pair(history, point)?;
+    let is_pass_busy = passes::breaks_pass_busy(history, point)?;
     Ok(Searched {
         is_overlapping,
         is_unordered,
         is_unpaired,
+        is_pass_busy,
     })
 }
 
 fn first_early(history: &History<'_>, point: &Point<'_>, searched: Searched) -> Option<Rule>
-    requires supported { IsTrue (is_supported_action (action_of point.now.action)) }
     requires ordered { IsOrdered (point_of point.now ∷ past history.now) }
     requires searched { AreSearched searched (past history.now) (point_of point.now) }
     ensures { result ≡ first_among early_rules (past history.now) (point_of point.now) }
@@ -181,7 +182,6 @@ fn first_on_command(
     command: &Cmd,
     searched: Searched,
 ) -> Option<Rule>
-    requires supported { IsTrue (is_supported_action (action_of point.now.action)) }
     requires ordered { IsOrdered (point_of point.now ∷ past history.now) }
     requires searched { AreSearched searched (past history.now) (point_of point.now) }
     requires command { action_of point.now.action ≡ Run command.now }
@@ -225,7 +225,6 @@ fn first_of(
     point: &Point<'_>,
     searched: Searched,
 ) -> Option<Rule>
-    requires supported { IsTrue (is_supported_action (action_of point.now.action)) }
     requires ordered { IsOrdered (point_of point.now ∷ past history.now) }
     requires searched { AreSearched searched (past history.now) (point_of point.now) }
     ensures { result ≡ find (λ r. breaks_early r (past history.now) (point_of point.now)) rules.now }
@@ -238,9 +237,7 @@ fn first_of(
     None
 }
 
-// Points of the supported forms can't break the rule that isn't listed: whether a pass finds commands.
 fn breaks_early(rule: Rule, history: &History<'_>, point: &Point<'_>, searched: Searched) -> bool
-    requires supported { IsTrue (is_supported_action (action_of point.now.action)) }
     requires ordered { IsOrdered (point_of point.now ∷ past history.now) }
     requires searched { AreSearched searched (past history.now) (point_of point.now) }
     ensures { result ≡ breaks_early rule (past history.now) (point_of point.now) }
@@ -280,6 +277,7 @@ fn breaks_early(rule: Rule, history: &History<'_>, point: &Point<'_>, searched: 
         Rule::HostVisible => mapping::breaks_host_visible(history, point),
         Rule::PoolKind => passes::breaks_pool_kind(history, point),
         Rule::PassState => passes::breaks_pass_state(history, point),
+        Rule::PassBusy => searched.is_pass_busy,
         Rule::PassWrite => passes::breaks_pass_write(history, point),
         _ => false,
     }

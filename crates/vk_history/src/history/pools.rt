@@ -1,4 +1,4 @@
-ghost use Rattle.std.specs.Prelude.{◌≡◌, ◌==◌, min};
+ghost use Rattle.std.specs.Prelude.{◌≡◌, ◌==◌, ℕ, min, Some, Contains};
 ghost use Rattle.std.specs.List.{list_any};
 ghost use Rattle.vk_model.specs.Basics.{holds};
 ghost use Rattle.vk_model.specs.Trace.Objects.{Resource, live_resources, memory_of, pool_of};
@@ -7,7 +7,7 @@ ghost use Rattle.vk_model.specs.Rules.Passes as passes;
 ghost use Rattle.vk_history.specs.PointViews.{past};
 
 use crate::history::History;
-use vk_model::Kind;
+use vk_model::{Entry, Kind};
 
 impl History<'_> {
     /// Whether a resource that asks for so many bytes would conflict, at an offset of a memory object,
@@ -30,6 +30,23 @@ impl History<'_> {
         ensures { result ≡ list_any (λ r. holds (pool_of (past self.now) r) (λ s. pool == s)) (live_resources (past self.now)) }
     {
         self.tables.occupants.has_pool(pool)
+    }
+
+    /// The resources that were ever created in a pool, the oldest first.
+    pub fn residents(&self, pool: u32) -> &[u32]
+        ensures { (r : ℕ) → pool_of (past self.now) r ≡ Some pool → Contains result.now r }
+    {
+        self.tables.residents.of(pool)
+    }
+
+    /// The pool of a defragmentation that hasn't ended.
+    pub fn defragmented(&self, defrag: u32) -> Option<u32>
+        ensures { result ≡ passes.pool_of_defrag (past self.now) defrag }
+    {
+        match self.live(defrag) {
+            Some(Entry::Defrag { pool, .. }) => Some(*pool),
+            _ => None,
+        }
     }
 
     /// Whether a pool has a defragmentation that hasn't ended.

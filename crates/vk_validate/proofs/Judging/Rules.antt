@@ -17,10 +17,8 @@ use Rattle.vk_model.specs.Trace.Point.{Past, Point, Action, Host, Run}
 use Rattle.vk_model.specs.Rules.Table.{breaks, first_rule}
 use Rattle.vk_model.specs.Rules.Hazards.{breaks_hazard_war, breaks_hazard_raw, breaks_hazard_waw, breaks_in_use, breaks_read_undefined}
 use Rattle.vk_model.specs.Rules.Traces.{breaks_limit}
-use Rattle.vk_history.specs.Supported.{is_supported_action}
 use Rattle.vk_history.specs.Judged.{early_rules, late_rules, first_among}
 use Rattle.vk_validate.specs.Inner.Early.{breaks_early, on_buffers, on_barriers}
-use Rattle.vk_validate.proofs.Judging.Unbroken as unbroken
 
 pub find-drop : {X : Type 0} (p : X → Bool) (xs : List X) (i : ℕ) (d : X) → i < length xs → find p (drop i xs) ≡ cond (p (get_or xs i d)) (Some (get_or xs i d)) (find p (drop (i + 1) xs))
 find-drop p xs i d lt = rw (add-one, drop-cons xs i d) refl
@@ -127,7 +125,7 @@ module _ (past : Past) (p : Point) where
   unfolding first_rule
   first_is_late e = found_second (λ r. breaks r past p) early_rules late_rules e
 
--- a rule isn't one of those that points of supported forms can break before their accesses
+-- a rule isn't one of those that are judged before accesses
 pub record IsUntested (r : Rule) : Type 0 where
   pub new_id : r ≡ rule.NewId → ⊥
   pub live_id : r ≡ rule.LiveId → ⊥
@@ -161,9 +159,10 @@ pub record IsUntested (r : Rule) : Type 0 where
   pub host_visible : r ≡ rule.HostVisible → ⊥
   pub pool_kind : r ≡ rule.PoolKind → ⊥
   pub pass_state : r ≡ rule.PassState → ⊥
+  pub pass_busy : r ≡ rule.PassBusy → ⊥
   pub pass_write : r ≡ rule.PassWrite → ⊥
 
-module _ (past : Past) (p : Point) (now : is_supported_action p.action ≡ true) where
+module _ (past : Past) (p : Point) where
   pub rest_unbroken : (r : Rule) → IsUntested r → false ≡ breaks_early r past p
   unfolding breaks_early breaks
   rest_unbroken rule.NewId u = absurd (u.new_id refl)
@@ -198,7 +197,7 @@ module _ (past : Past) (p : Point) (now : is_supported_action p.action ≡ true)
   rest_unbroken rule.HostVisible u = absurd (u.host_visible refl)
   rest_unbroken rule.PoolKind u = absurd (u.pool_kind refl)
   rest_unbroken rule.PassState u = absurd (u.pass_state refl)
-  rest_unbroken rule.PassBusy u = sym (unbroken.no_pass_busy past p now)
+  rest_unbroken rule.PassBusy u = absurd (u.pass_busy refl)
   rest_unbroken rule.PassWrite u = absurd (u.pass_write refl)
   rest_unbroken rule.HazardWar u = refl
   rest_unbroken rule.HazardRaw u = refl

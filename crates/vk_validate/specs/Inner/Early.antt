@@ -7,6 +7,7 @@ use Rattle.vk_model.specs.Rules.Table.{breaks}
 use Rattle.vk_model.specs.Rules.Ranges.{breaks_overlap}
 use Rattle.vk_model.specs.Rules.Owners.{breaks_owner_pair}
 use Rattle.vk_model.specs.Rules.Synchronization.{breaks_signal_order}
+use Rattle.vk_model.specs.Rules.Passes.{breaks_pass_busy}
 use Rattle.vk_validate.specs.declared.rules.Searched.{Searched}
 
 -- Whether a rule is on accesses, or comes after those.
@@ -36,3 +37,4 @@ pub record AreSearched (found : Searched) (past : Past) (p : Point) : Type 0 whe
   pub overlapping : found.is_overlapping ≡ breaks_overlap past p
   pub unordered : found.is_unordered ≡ breaks_signal_order past p
   pub unpaired : found.is_unpaired ≡ breaks_owner_pair past p
+  pub pass_busy : found.is_pass_busy ≡ breaks_pass_busy past p

@@ -1,5 +1,5 @@
 -- Parts of rules, as single functions answer them.
-use Rattle.std.specs.Prelude.{ℕ, ◌+◌, ◌*◌, ◌%◌, ◌==◌, ◌&&◌, ◌||◌, List, Bool, not, nat_lt, option_and_then}
+use Rattle.std.specs.Prelude.{ℕ, ◌+◌, ◌*◌, ◌%◌, ◌==◌, ◌&&◌, ◌||◌, ◌∷◌, List, Bool, not, nat_lt, option_and_then}
 use Rattle.std.specs.List.{list_any}
 use Rattle.vk_model.specs.declared.command.BufferCopy.{BufferCopy}
 use Rattle.vk_model.specs.declared.command.BufferImageCopy.{BufferImageCopy}
@@ -8,17 +8,19 @@ use Rattle.vk_model.specs.declared.entry.Entry.{Entry}
 use Rattle.vk_model.specs.declared.resource.Place.{Place}
 use Rattle.vk_model.specs.Basics.{holds}
 use Rattle.vk_model.specs.Trace.Image.{texel}
-use Rattle.vk_model.specs.Trace.Objects.{Resource, image, pool, memory, pool_at, bound_at, type_at}
+use Rattle.vk_model.specs.Trace.Objects.{Resource, image, pool, memory, pool_at, pool_of, live, bound_at, type_at}
 use Rattle.vk_model.specs.Trace.Point.{Past, Point}
 use Rattle.vk_model.specs.World.Areas.{Box}
 use Rattle.vk_model.specs.World.Bytes.{Byte, resource_at}
 use Rattle.vk_model.specs.World.ByteWrites.{buffer_size}
 use Rattle.vk_model.specs.Rules.Binding.{is_aliased}
 use Rattle.vk_model.specs.Rules.Passes.{moves_now}
-use Rattle.vk_model.specs.Sync.Node.{Act}
+use Rattle.vk_model.specs.Sync.Node.{Act, Hosts, nodes}
+use Rattle.vk_model.specs.Sync.Complete.{is_busy}
 use Rattle.vk_model.specs.Sync.Access.{writes_of}
-use Rattle.vk_model.specs.Rules.Ids.{Asked, is_dead, judged_in}
+use Rattle.vk_model.specs.Rules.Ids.{Asked, is_dead, is_resource, judged_in}
 use Rattle.vk_model.specs.Rules.Ranges.{region_past, bad_box, bad_range}
+use Rattle.vk_touches.specs.Touched.{next_node}
 
 -- Whether an id isn't a live object of the kind asked, as the ids of a point are judged.
 abbrev pub is_dead_for : Past → Point → ℕ → (Entry → Bool) → Bool
@@ -71,3 +73,7 @@ writes_moving past q as' = list_any (λ a. touches_moving past (writes_of past q
 -- Whether a resource conflicts with a live one in the memory object that it's bound to.
 abbrev pub is_aliased_at : Past → Resource → Bool
 is_aliased_at past r = holds (bound_at r.place) (λ s. is_aliased past r s.0 s.1)
+
+-- Whether a resource is live, in a pool, and busy at a host entry at a point that comes next.
+abbrev pub is_resident_busy : Past → Point → Entry → ℕ → ℕ → Bool
+is_resident_busy past p x q r = holds (live past r) is_resource && holds (pool_of past r) (λ s. q == s) && is_busy past (nodes (p ∷ past)) (next_node past p (Hosts x)) r

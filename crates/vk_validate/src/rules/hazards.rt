@@ -180,7 +180,8 @@ fn is_busy_at(history: &History<'_>, point: &Point<'_>, resource: u32) -> Result
     Ok(history.is_busy(resource, &new_node))
 }
 
-fn is_live_resource(history: &History<'_>, id: u32) -> bool
+/// Whether an id is a live resource.
+pub fn is_live_resource(history: &History<'_>, id: u32) -> bool
     ensures { result ≡ holds (live (past history.now) id) is_resource }
 {
     match history.live(id) {

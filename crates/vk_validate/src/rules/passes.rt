@@ -1,19 +1,24 @@
-ghost use Rattle.std.specs.Prelude.{◌≡◌, option_and_then};
+ghost use Rattle.std.specs.Prelude.{◌≡◌, ◌==◌, IfOk, option_and_then};
 ghost use Rattle.std.specs.List.{list_any};
 ghost use Rattle.vk_model.specs.Basics.{holds};
-ghost use Rattle.vk_model.specs.Trace.Objects.{pool};
+ghost use Rattle.vk_model.specs.Trace.Point.{Host};
+ghost use Rattle.vk_model.specs.Trace.Objects.{pool, pool_of};
 ghost use Rattle.vk_model.specs.Rules.Passes as passes;
-ghost use Rattle.vk_order.specs.PointViews.{point_of};
-ghost use Rattle.vk_model.specs.Sync.Node.{command_acts};
+ghost use Rattle.vk_order.specs.Frontiers.{IsNewNode};
+ghost use Rattle.vk_order.specs.PointViews.{action_of, point_of};
+ghost use Rattle.vk_model.specs.Sync.Node.{command_acts, nodes, Hosts};
 ghost use Rattle.vk_model.specs.Sync.Access.{transition_bytes};
+ghost use Rattle.vk_touches.specs.Touched.{next_node};
 ghost use Rattle.vk_history.specs.PointViews.{past};
 ghost use Rattle.vk_validate.specs.Inner.RuleParts as parts;
 
+use crate::rules::hazards::is_live_resource;
 use crate::written::{written, written_by_element};
+use std::alloc::AllocError;
 use vk_history::History;
 use vk_laws::written_by_host;
 use vk_model::{Cmd, Element, Entry, Place, PoolInfo, PoolKind};
-use vk_order::{Action, Point};
+use vk_order::{Action, NewNode, Point};
 
 /// POOL_KIND: a defragmentation of a linear pool, or a place at the upper end of a pool that has none.
 pub fn breaks_pool_kind(history: &History<'_>, point: &Point<'_>) -> bool
@@ -101,6 +106,90 @@ fn is_bad_pass(history: &History<'_>, entry: &Entry) -> bool
         Entry::EndPass { defrag, .. } => !history.is_in_pass(*defrag),
         Entry::Destroy { resource } => history.is_moving(*resource),
         _ => false,
+    }
+}
+
+/// PASS_BUSY: a pass begins or ends while a submitted command that names a resource of its pool isn't
+/// known complete. It looks at each resource that was created in the pool. The only error is want of
+/// memory.
+pub fn breaks_pass_busy(history: &History<'_>, point: &Point<'_>) -> Result<bool, AllocError>
+    ensures { IfOk result (λ busy. busy ≡ passes.breaks_pass_busy (past history.now) (point_of point.now)) }
+{
+    match point.action {
+        Action::Host(entry) => passes_busy(history, point, entry),
+        _ => Ok(false),
+    }
+}
+
+/// Whether an entry begins or ends a pass of a pool with a busy resource.
+fn passes_busy(history: &History<'_>, point: &Point<'_>, entry: &Entry) -> Result<bool, AllocError>
+    requires { action_of point.now.action ≡ Host entry.now }
+    ensures { IfOk result (λ busy. busy ≡ passes.passes_busy (past history.now) (point_of point.now) entry.now) }
+{
+    let Some(pool) = passing_pool(history, entry) else {
+        return Ok(false);
+    };
+    let new_node = history.new_node(point)?;
+    let residents = history.residents(pool);
+    Ok(some_is_busy(history, point, entry, &new_node, pool, residents))
+}
+
+/// The pool of which an entry begins or ends a pass.
+fn passing_pool(history: &History<'_>, entry: &Entry) -> Option<u32>
+    ensures { result ≡ option_and_then (passes.pool_of_defrag (past history.now)) (passes.pass_of entry.now) }
+{
+    match entry {
+        Entry::Pass { defrag } => history.defragmented(*defrag),
+        Entry::EndPass { defrag, .. } => history.defragmented(*defrag),
+        _ => None,
+    }
+}
+
+/// Whether one of some resources is live, in a pool, and busy at an entry that comes next.
+fn some_is_busy(
+    history: &History<'_>,
+    point: &Point<'_>,
+    entry: &Entry,
+    new_node: &NewNode<'_>,
+    pool: u32,
+    resources: &[u32],
+) -> bool
+    requires entry { action_of point.now.action ≡ Host entry.now }
+    requires new_node { IsNewNode (nodes (past history.now)) (next_node (past history.now) (point_of point.now) (Hosts entry.now)) new_node.now }
+    ensures { result ≡ list_any (parts.is_resident_busy (past history.now) (point_of point.now) entry.now pool) resources.now }
+{
+    for resource in resources {
+        if is_resident_busy(history, point, entry, new_node, pool, *resource) {
+            return true;
+        }
+    }
+    false
+}
+
+/// The same of one resource.
+fn is_resident_busy(
+    history: &History<'_>,
+    point: &Point<'_>,
+    entry: &Entry,
+    new_node: &NewNode<'_>,
+    pool: u32,
+    resource: u32,
+) -> bool
+    requires entry { action_of point.now.action ≡ Host entry.now }
+    requires new_node { IsNewNode (nodes (past history.now)) (next_node (past history.now) (point_of point.now) (Hosts entry.now)) new_node.now }
+    ensures { result ≡ parts.is_resident_busy (past history.now) (point_of point.now) entry.now pool resource }
+{
+    is_live_resource(history, resource)
+        && is_in_pool(history, pool, resource)
+        && history.is_busy(resource, new_node)
+}
+
+fn is_in_pool(history: &History<'_>, pool: u32, resource: u32) -> bool
+    ensures { result ≡ holds (pool_of (past history.now) resource) (λ s. pool == s) }
+{
+    match history.pool_of(resource) {
+        Some(own) => pool == own,
+        None => false,
     }
 }
 

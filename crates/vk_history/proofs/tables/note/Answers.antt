@@ -27,6 +27,7 @@ returns c = λ past judged tabled.
       layouts = c.in_ok-note_with.ensures past judged tabled.objects tabled.layouts;
       contents = c.in_ok-note-10.ensures past judged.faultless (ap (λ (k : ℕ). at c.line_of-line.result k c.nodes.result) place_is ∙ ap (λ (n : ℕ). at c.line_of-line.result (next_place past c.line_of-line.result) n) number_is ∙ ap (λ (l : Line). at l (next_place past l) (length (nodes past))) line_is) (c.in_ok-note-6.ensures past tabled.objects) tabled.frontier tabled.contents;
       uses = c.in_ok-note-11.ensures past judged.ordered tabled.frontier tabled.uses;
+      residents = c.in_ok-note-12.ensures past tabled.residents;
       owners = c.in_ok-note-5.ensures past tabled.objects tabled.frontier tabled.owners;
       frontier = c.in_ok-advance.ensures (nodes past) (ordered_new (p ∷ past) past p judged.ordered newest) tabled.frontier;
     }

@@ -134,6 +134,10 @@ pub returns-in-PassState : goal.returns-in-PassState
 unfolding breaks_early breaks
 returns-in-PassState c = rw c.in-PassState.is c.breaks_pass_state.ensures
 
+pub returns-in-PassBusy : goal.returns-in-PassBusy
+unfolding breaks_early breaks
+returns-in-PassBusy c = rw c.in-PassBusy.is c.requires.searched.pass_busy
+
 pub returns-in-PassWrite : goal.returns-in-PassWrite
 unfolding breaks_early breaks
 returns-in-PassWrite c = rw c.in-PassWrite.is c.breaks_pass_write.ensures
@@ -141,7 +145,7 @@ returns-in-PassWrite c = rw c.in-PassWrite.is c.breaks_pass_write.ensures
 pub returns-in_default : goal.returns-in_default
 returns-in_default c =
     let d = c.in_default in
-    rest_unbroken (past c.args.history.now) (point_of c.args.point.now) c.requires.supported c.args.rule (record {
+    rest_unbroken (past c.args.history.now) (point_of c.args.point.now) c.args.rule (record {
       new_id = d.not-NewId;
       live_id = d.not-LiveId;
       queue = d.not-Queue;
@@ -174,5 +178,6 @@ returns-in_default c =
       host_visible = d.not-HostVisible;
       pool_kind = d.not-PoolKind;
       pass_state = d.not-PassState;
+      pass_busy = d.not-PassBusy;
       pass_write = d.not-PassWrite;
     })

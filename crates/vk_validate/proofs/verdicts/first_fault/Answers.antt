@@ -23,10 +23,10 @@ returns-in-Some c =
     ap (λ (reported : At). Some (reported, c.in-Some.rule)) c.at_of-in-Some.ensures
     ∙ reported_here c.loop-point.history c.args.points.now c.loop-point.point-index c.loop-point.invariant c.point-item.result at c.in-Some.rule c.is_judged.ensures (rw (reported_rule, ← c.is_supported.ensures, c.if-not-is_supported.false) (sym c.in_ok-rule.ensures ∙ c.in-Some.is))
 
-pub first_rule-requires-clause-ordered : goal.first_rule-requires-clause-ordered
-first_rule-requires-clause-ordered c =
+pub first_rule-requires : goal.first_rule-requires
+first_rule-requires c =
     let at : slice_get c.args.points.now c.loop-point.point-index ≡ Some c.point-item.result = slice_get_read c.args.points.now (length c.args.points.now) c.loop-point.point-index c.point-item.result refl (omega arith) c.point-item.is in
-    next_ordered c.loop-point.history c.args.points.now c.loop-point.point-index c.loop-point.invariant c.point-item.result at c.requires
+    record { ordered = next_ordered c.loop-point.history c.args.points.now c.loop-point.point-index c.loop-point.invariant c.point-item.result at c.requires }
 
 pub advance-requires-clause-here : goal.advance-requires-clause-here
 advance-requires-clause-here c = rw c.loop-point.invariant (slice_get_read c.args.points.now (length c.args.points.now) c.loop-point.point-index c.point-item.result refl (omega arith) c.point-item.is)
