@@ -52,7 +52,7 @@ module _ (s : Held) (consistent : IsConsistent s) where
       consistent.2,
     )
 
-    -- byte writes that its resource alone tells have been made
+    -- byte writes of which its resource alone says that they have been made
     pub written_runs : (ms : List ByteWrite) → HaveRun ms (byte_at s) (byte_at (with_bytes s p.object new)) → Runs s consistent p.object new ms
     written_runs ms ran = (written_consistent, (changed_keeps s consistent.0 consistent.2 d p here new written.size outside, ran, refl))
 
