@@ -1,5 +1,5 @@
 -- Which resources are kept of each pool.
-use Rattle.std.specs.Prelude.{◌≡◌, ℕ, List, [], Option, Some, Contains, option_and_then}
+use Rattle.std.specs.Prelude.{◌≡◌, ℕ, List, [], Some, Contains, option_and_then}
 use Rattle.std.specs.Option.{option_map_or}
 use Rattle.vk_ids.specs.Ids.{value_of}
 use Rattle.vk_model.specs.declared.entry.Entry.{Entry}

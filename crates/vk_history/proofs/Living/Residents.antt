@@ -11,7 +11,7 @@ use Rattle.vk_history.specs.declared.residents.Residents.{Residents}
 use Rattle.vk_history.specs.Residents.{AreResidents, ResideBy, residents_at}
 
 -- an id that is this one
-named : (o : Option ℕ) (r : ℕ) → holds o (λ j. r == j) ≡ true → o ≡ Some r
+pub named : (o : Option ℕ) (r : ℕ) → holds o (λ j. r == j) ≡ true → o ≡ Some r
 named None r h = absurd cc
 named (Some j) r h = ap (λ (k : ℕ). Some k) (sym (eqb-true r j h))
 

@@ -15,6 +15,7 @@ use Rattle.vk_model.proofs.Lists.Members.{some_member, member_passes, filtered}
 use Rattle.vk_model.proofs.Lists.Truths.{bool_same}
 use Rattle.vk_laws.proofs.Living.Alive.{is_alive, among_live}
 use Rattle.vk_touches.specs.Touched.{next_node}
+use Rattle.vk_history.proofs.Living.Residents.{named}
 use Rattle.vk_validate.specs.Inner.RuleParts.{is_resident_busy}
 use Rattle.vk_touches.proofs.Touching.LastHazards.{one_next}
 
@@ -55,11 +56,6 @@ either_some : (f g : ℕ → Bool) (xs ys : List ℕ) → ((r : ℕ) → Contain
 either_some f g xs ys on back = bool_same _ _
     (λ h. let s = some_member f xs h in let t = on s.0 s.1 s.2 in member_passes g ys s.0 t.0 t.1)
     (λ h. let s = some_member g ys h in let t = back s.0 s.1 s.2 in member_passes f xs s.0 t.0 t.1)
-
--- an id that is this one
-named : (o : Option ℕ) (q : ℕ) → holds o (λ s. q == s) ≡ true → o ≡ Some q
-named None q h = absurd cc
-named (Some s) q h = ap (λ (k : ℕ). Some k) (sym (eqb-true q s h))
 
 -- the live resources of a pool are among those that were created in it
 pub pool_busy : (past : Past) (p : Point) (x : Entry) (q : ℕ) (residents : List ℕ) → p.action ≡ Host x → ((r : ℕ) → pool_of past r ≡ Some q → Contains residents r)

@@ -1,7 +1,5 @@
-use Rattle.std.proofs.Common.{◌≡◌, ◌∷◌, [], ℕ, List, ◌++◌, Option, Some, sym, subst}
+use Rattle.std.proofs.Common.{◌≡◌, ◌∷◌, [], ℕ}
 use Rattle.std.proofs.lemmas.List.Elements.{Contains-append_left, Contains-append_right}
-use Rattle.std.specs.Prelude.{Contains}
-use Rattle.std.specs.Option.{option_map_or}
 use Rattle.vk_ids.specs.Ids.{value_of}
 use Rattle.vk_model.proofs.Lists.Members.{contains-head, none_in}
 use Rattle.vk_history.proofs.Living.Residents.{entered, stays}

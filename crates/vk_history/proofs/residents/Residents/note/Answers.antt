@@ -1,8 +1,7 @@
 use Rattle.std.proofs.Common.{ap}
 use Rattle.std.proofs.lemmas.Result.{on_ok_weaker}
 use Rattle.vk_order.specs.PointViews.{point_of, action_of}
-use Rattle.vk_history.proofs.Living.Residents.{host_resides, quiet_resides}
-use Rattle.vk_history.proofs.Making.JudgedIds.{no_host}
+use Rattle.vk_history.proofs.Living.Residents.{host_resides}
 use Rattle.vk_history.proofs.residents.Residents.note.Goals as goal
 
 pub returns-in-Host : goal.returns-in-Host
