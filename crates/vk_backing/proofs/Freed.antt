@@ -10,14 +10,15 @@ use Rattle.vma_pools.specs.State.{IsObject}
 use Rattle.vma_pools.proofs.NumberLemmas.{at-set, at-other}
 use Rattle.vk_backing.specs.Backed.{AreSized}
 use Rattle.vk_backing.specs.Allotted.{kind_of}
-use Rattle.vk_backing.proofs.Grown.{some_there, there_some, live_number}
+use Rattle.vk_backing.proofs.Grown.{some_there, there_some}
+use Rattle.vk_memory.proofs.LiveObjects.{live_below}
 
 module _ (m : MemoryState) (n : ℕ) (live : IsLive m n) where
   abbrev pub freed : MemoryState
   freed = with_object m n None
 
   freed_none : object_at freed n ≡ None
-  freed_none = at-set m.objects n None (live_number m n live)
+  freed_none = at-set m.objects n None (live_below m n live)
 
   pub freed_other : (k : ℕ) → (k ≡ n → ⊥) → object_at freed k ≡ object_at m k
   freed_other k other = at-other m.objects n k None other
@@ -43,12 +44,12 @@ module _ (m : MemoryState) (n : ℕ) (live : IsLive m n) where
   kind_kept k other = ap (λ (l : List (Option (ℕ × ℕ))). slice_index_or l k None) freed_kinds ∙ at-other (map kind_of m.objects) n k None other
 
   pub kind_here : (o : Object) → object_at m n ≡ Some o → slice_index_or (map kind_of m.objects) n None ≡ Some (o.memory_type, o.size)
-  kind_here o at = get_or-map kind_of m.objects n None None (live_number m n live) ∙ ap kind_of at
+  kind_here o at = get_or-map kind_of m.objects n None None (live_below m n live) ∙ ap kind_of at
 
   -- what is summed over them is less by it
   pub freed_sum : (f : Option (ℕ × ℕ) → ℕ) → f None ≡ 0 → (o : Object) → object_at m n ≡ Some o → sum_by f (map kind_of freed.objects) + f (Some (o.memory_type, o.size)) ≡ sum_by f (map kind_of m.objects)
   freed_sum f none o at =
-      let s = sum_by-set f (map kind_of m.objects) n None None (let l = live_number m n live in omega (arith, l, length-map m.objects kind_of)) in
+      let s = sum_by-set f (map kind_of m.objects) n None None (let l = live_below m n live in omega (arith, l, length-map m.objects kind_of)) in
       let k = ap (λ (l : List (Option (ℕ × ℕ))). sum_by f l) freed_kinds in
       let e = ap f (kind_here o at) in omega (arith, s, k, e, none)
 

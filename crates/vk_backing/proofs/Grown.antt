@@ -1,22 +1,15 @@
 -- Memory objects, with one more.
-use Rattle.std.proofs.Common.{◌≡◌, ℕ, ◌<◌, List, [], ◌∷◌, ◌++◌, map, length, false, Option, Some, None, refl, sym, ap, ◌∙◌, arith, inl, inr}
+use Rattle.std.proofs.Common.{◌≡◌, ℕ, ◌<◌, List, [], ◌∷◌, ◌++◌, map, length, Option, Some, None, refl, sym, ap, ◌∙◌, arith, inl, inr}
 use Rattle.std.specs.Prelude.{IsSome, slice_index_or}
-use Rattle.std.specs.Ordering.{nat_cmp}
-use Rattle.std.specs.BTreeMap.{is_at}
-use Rattle.std.proofs.lemmas.Grind.{common_steps}
 use Rattle.std.proofs.lemmas.List.{length-map, length-replicate, map-append, get_or_append_left}
 use Rattle.vk_memory.specs.declared.memories.Object.{Object}
 use Rattle.vk_memory.specs.MemoryState.{MemoryState, IsLive, object_at, fresh}
 use Rattle.vma_pools.specs.State.{PoolsState, Alone, BlockOf, ArePools, Backs}
-use Rattle.vma_pools.proofs.NumberLemmas.{at-more, at-old, at-new, at-below}
+use Rattle.vma_pools.proofs.NumberLemmas.{at-more, at-old, at-new}
 use Rattle.vma_pools.proofs.StateLemmas.{some-is}
 use Rattle.vma_pools.proofs.BacksLemmas.{has-bytes, grown-region, grown-type}
 use Rattle.vk_backing.specs.Backed.{AreSized}
 use Rattle.vk_backing.specs.Allotted.{kind_of}
-
--- another id isn't found at this one
-pub other_id : (id q : ℕ) → (q ≡ id → ⊥) → is_at (nat_cmp id) q ≡ false
-other_id id q other = grind (arith, common_steps)
 
 pub some_there : {A : Type 0} (o : Option A) → IsSome o → (x : A) × (o ≡ Some x)
 some_there None h = absurd cc
@@ -24,9 +17,6 @@ some_there (Some x) h = (x, refl)
 
 pub there_some : {A : Type 0} (o : Option A) (x : A) → o ≡ Some x → IsSome o
 there_some o x e = rw e refl
-
-pub live_number : (m : MemoryState) (n : ℕ) → IsLive m n → n < length m.objects
-live_number m n live = let o = some_there (object_at m n) live in at-below m.objects n o.0 o.1
 
 module _ (m : MemoryState) (t size : ℕ) where
   abbrev pub grown : MemoryState

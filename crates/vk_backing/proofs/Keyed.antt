@@ -1,5 +1,5 @@
 -- Lists of what has keys.
-use Rattle.std.proofs.Common.{◌≡◌, ℕ, ◌+◌, List, [], ◌∷◌, ◌++◌, map, Bool, not, ◌==◌, Some, None, refl, sym, ap, subst, ◌∙◌, arith, inl, inr, ◌⊎◌}
+use Rattle.std.proofs.Common.{◌≡◌, ℕ, ◌+◌, List, [], ◌∷◌, ◌++◌, map, Bool, not, ◌==◌, Some, refl, sym, ap, subst, ◌∙◌, arith, inl, inr, ◌⊎◌}
 use Rattle.std.specs.Prelude.{if◌then◌else◌, sum_by}
 use Rattle.std.specs.List.{filter, find}
 use Rattle.std.proofs.lemmas.Bool.{cases_eq, ne_eqb, eq-eqb}
@@ -89,13 +89,6 @@ module _ {A : Type 0} (key : A → ℕ) where
   found_some k (x ∷ xs) q e = elim (cases_eq (key x) k) [
     | inl is ↦ found_in k x xs is ∙ ap (λ (y : A). Some y) (head_is x q (picked k xs) [] (sym (picked_in k x xs is) ∙ e))
     | inr other ↦ found_out k x xs other ∙ found_some k xs q (sym (picked_out k x xs other) ∙ e)
-  ]
-
-  pub found_none : (k : ℕ) (xs : List A) → picked k xs ≡ [] → find (λ y. key y == k) xs ≡ None
-  found_none k [] e = refl
-  found_none k (x ∷ xs) e = elim (cases_eq (key x) k) [
-    | inl is ↦ absurd (let f = sym (picked_in k x xs is) ∙ e in cc)
-    | inr other ↦ found_out k x xs other ∙ found_none k xs (sym (picked_out k x xs other) ∙ e)
   ]
 
   -- ---- what is in a list

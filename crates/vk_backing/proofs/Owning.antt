@@ -17,9 +17,10 @@ use Rattle.vk_backing.specs.declared.backing.Own.{Own}
 use Rattle.vk_backing.specs.Backed.{Backed, own_in, object_in, dedicated_in, object_of, dedicated_of, pool_of, allocation_of, IsBacked, IsDedicated, IsOwner, IsWhole}
 use Rattle.vk_backing.specs.Allotted.{allotted, kind_of, bytes_on, one_if, own_memory, Fulfils}
 use Rattle.vk_backing.proofs.Keyed.{push_here, push_other}
-use Rattle.vk_backing.proofs.Grown.{grown, grown_live, new_live, live_number, grown_sized, grown_kinds, kind_stays, kind_new}
+use Rattle.vk_backing.proofs.Grown.{grown, grown_live, new_live, grown_sized, grown_kinds, kind_stays, kind_new}
 use Rattle.vk_backing.proofs.Owned.{object_is, dedicated_is, no_dedicated}
 use Rattle.vk_backing.proofs.Turned.{Stays, stays, dedicated_stays, turned, turned_shared, turned_pools}
+use Rattle.vk_memory.proofs.LiveObjects.{live_below}
 
 -- the bytes on a heap
 pub heap_bytes : (t size : ℕ) (first : Bool) → (if heap_of t == (if first then 0 else 1) then size else 0) ≡ bytes_on first (Some (t, size))
@@ -43,7 +44,7 @@ module _ (b : Backed) (m : MemoryState) (h : IsBacked b m) (t size : ℕ) (alloc
   stay a = stays (allocation_at b.pools a) (slice_index_or allocations a None) (λ x is. kept a x is)
 
   not_new : (i n : ℕ) → object_of b i ≡ Some n → n ≡ length m.objects → ⊥
-  not_new i n has is = let l = live_number m n (h.live i n has) in absurd (omega (arith, l, is))
+  not_new i n has is = let l = live_below m n (h.live i n has) in absurd (omega (arith, l, is))
 
   -- those that no id has change nothing
   pub more_backed : ArePools pools_now → Backs pools_now (grown m t size) → ((x : Owner) (n : ℕ) → Has pools_now x n → Has b.pools x n ⊎ (n ≡ length m.objects)) → IsBacked (record b { pools = pools_now }) (grown m t size)
@@ -167,4 +168,4 @@ module _ (b : Backed) (m : MemoryState) (h : IsBacked b m) (t size : ℕ) (alloc
         where
           kept_kind : (i : ℕ) (o : Option ℕ) → object_of b i ≡ o → option_and_then (λ n. slice_index_or (map kind_of m.objects) n None) o ≡ option_and_then (λ n. slice_index_or (map kind_of (grown m t size).objects) n None) o
           kept_kind i None e = refl
-          kept_kind i (Some n) e = sym (kind_stays m t size n (live_number m n (h.live i n e)))
+          kept_kind i (Some n) e = sym (kind_stays m t size n (live_below m n (h.live i n e)))

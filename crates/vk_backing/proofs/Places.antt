@@ -26,10 +26,11 @@ use Rattle.vma_pools.proofs.CountedLemmas.{old-blocks}
 use Rattle.vk_backing.specs.Backed.{Backed, number_in, object_of, pool_of, allocation_of, allocation_by, IsBacked}
 use Rattle.vk_backing.specs.Allotted.{allotted, kind_of, bytes_on, one_if, own_memory, resident_of, ArePoolsOf, Fulfils}
 use Rattle.vk_backing.proofs.Keyed.{picked_in, picked_out, picked_map, found_some, sum_one}
-use Rattle.vk_backing.proofs.Grown.{grown_kinds, kind_stays, live_number}
+use Rattle.vk_backing.proofs.Grown.{grown_kinds, kind_stays}
 use Rattle.vk_backing.proofs.Heaps.{room_found, found_room}
 use Rattle.vk_backing.proofs.Owning.{heap_bytes}
 use Rattle.vk_backing.proofs.Sharing.{blocks_new, given, next, sharing, pool_here, pool_other, old_allocation, new_allocated}
+use Rattle.vk_memory.proofs.LiveObjects.{live_below}
 
 -- ---- the pool of a device
 
@@ -152,7 +153,7 @@ module _ (b : Backed) (m : MemoryState) (h : IsBacked b m) (p : ℕ) (was now : 
       go t None e = refl
       go (inl t) (Some n) e = ap (λ (x : MemoryState). own_memory i (slice_index_or (map kind_of x.objects) n None)) (sym t.1)
       go (inr t) (Some n) e =
-          ap (λ (k : Option (ℕ × ℕ)). own_memory i k) (sym (kind_stays m was.pool.info.memory_type was.pool.info.block_size n (live_number m n (h.live i n e))))
+          ap (λ (k : Option (ℕ × ℕ)). own_memory i k) (sym (kind_stays m was.pool.info.memory_type was.pool.info.block_size n (live_below m n (h.live i n e))))
           ∙ ap (λ (x : MemoryState). own_memory i (slice_index_or (map kind_of x.objects) n None)) (sym t.object)
 
   -- ---- residents

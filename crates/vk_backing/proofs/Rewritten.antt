@@ -7,7 +7,8 @@ use Rattle.vk_memory.specs.MemoryState.{MemoryState, IsLive, object_at, region_o
 use Rattle.vma_pools.proofs.NumberLemmas.{at-set, at-other}
 use Rattle.vma_pools.proofs.StateLemmas.{some-is}
 use Rattle.vk_backing.specs.Backed.{Backed, AreSized, IsBacked}
-use Rattle.vk_backing.proofs.Grown.{some_there, there_some, live_number}
+use Rattle.vk_backing.proofs.Grown.{some_there, there_some}
+use Rattle.vk_memory.proofs.LiveObjects.{live_below}
 
 module _ (m : MemoryState) (n : ℕ) (bytes : List ℕ) (live : IsLive m n) (long : length bytes ≡ length (region_of m n)) where
   abbrev after : MemoryState
@@ -17,7 +18,7 @@ module _ (m : MemoryState) (n : ℕ) (bytes : List ℕ) (live : IsLive m n) (lon
   object = some_there (object_at m n) live
 
   here : object_at after n ≡ Some (record object.0 { region = bytes })
-  here = at-set m.objects n (rewritten bytes (object_at m n)) (live_number m n live) ∙ ap (λ (o : Option Object). rewritten bytes o) object.1
+  here = at-set m.objects n (rewritten bytes (object_at m n)) (live_below m n live) ∙ ap (λ (o : Option Object). rewritten bytes o) object.1
 
   elsewhere : (k : ℕ) → (k ≡ n → ⊥) → object_at after k ≡ object_at m k
   elsewhere k other = at-other m.objects n k (rewritten bytes (object_at m n)) other

@@ -19,8 +19,9 @@ use Rattle.vma_pools.proofs.PoolAlike.{are-length}
 use Rattle.vma_pools.proofs.StateLemmas.{some-is}
 use Rattle.vma_pools.proofs.CountedLemmas.{old-blocks}
 use Rattle.vk_backing.specs.Backed.{Backed, AreSized, number_in, object_of, dedicated_of, pool_of, allocation_of, IsBacked, IsShared, IsOwner, IsWhole}
-use Rattle.vk_backing.proofs.Grown.{grown_live, grown_sized, live_number}
+use Rattle.vk_backing.proofs.Grown.{grown_live, grown_sized}
 use Rattle.vk_backing.proofs.Turned.{stays, dedicated_stays}
+use Rattle.vk_memory.proofs.LiveObjects.{live_below}
 
 -- ---- the blocks of a pool that has given a place
 
@@ -110,7 +111,7 @@ module _ (b : Backed) (m : MemoryState) (h : IsBacked b m) (p : ℕ) (was now : 
 
   -- whose memory object an id has, it had
   still_owner : (i n : ℕ) (x : Owner) → object_of b i ≡ Some n → Has given_pools x n → IsOwner (dedicated_of b i) x
-  still_owner i n x has its = elim (had x n its) [ inl old ↦ h.apart i n x has old | inr new ↦ (let l = live_number m n (h.live i n has) in absurd (omega (arith, l, new))) ]
+  still_owner i n x has its = elim (had x n its) [ inl old ↦ h.apart i n x has old | inr new ↦ (let l = live_below m n (h.live i n has) in absurd (omega (arith, l, new))) ]
 
   -- ---- allocations
 

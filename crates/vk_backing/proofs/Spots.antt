@@ -1,7 +1,7 @@
 -- Where resources lie in pools.
-use Rattle.std.proofs.Common.{◌≡◌, ℕ, ◌+◌, ◌<◌, ◌≤◌, [], length, get_or, false, ◌&&◌, Some, refl, sym, ap, subst, ◌∙◌, arith, inl, inr, ◌⊎◌}
-use Rattle.std.specs.Prelude.{nat_lt, AllPairs}
-use Rattle.std.proofs.lemmas.Bool.{cases_lt, or_parts, and_from, lt-ltb, both_ways}
+use Rattle.std.proofs.Common.{◌≡◌, ℕ, ◌+◌, ◌<◌, ◌≤◌, [], length, get_or, false, Some, refl, sym, ap, subst, ◌∙◌, arith, inl, inr, ◌⊎◌}
+use Rattle.std.specs.Prelude.{AllPairs}
+use Rattle.std.proofs.lemmas.Bool.{cases_lt, or_parts}
 use Rattle.std.proofs.lemmas.List.{get_or_default}
 use Rattle.vk_memory.specs.MemoryState.{MemoryState, IsLive, region_of}
 use Rattle.vk_model.specs.declared.resource.Spot.{Spot}
@@ -19,19 +19,9 @@ use Rattle.vma_pools.proofs.MovingLemmas.{range-inside}
 use Rattle.vma_pools.proofs.StateLemmas.{some-is}
 use Rattle.vk_backing.specs.Backed.{Backed, allocation_of, LiesIn, IsBacked}
 use Rattle.vk_backing.specs.Spots.{AreSpots}
+use Rattle.vk_model.proofs.Memory.Ranges.{beside}
 
 -- ---- numbers
-
--- two ranges of some bytes that don't meet are beside each other
-beside : (a n b m : ℕ) → 0 < n → 0 < m → ranges_meet a n b m ≡ false → (a + n ≤ b) ⊎ (b + m ≤ a)
-beside a n b m some few apart = elim (cases_lt a (b + m)) [
-  | inl low ↦ elim (cases_lt b (a + n)) [
-    | inl lower ↦ absurd (both_ways (ranges_meet a n b m) apart
-        (and_from (nat_lt 0 n && nat_lt 0 m && nat_lt a (b + m)) (nat_lt b (a + n)) (and_from (nat_lt 0 n && nat_lt 0 m) (nat_lt a (b + m)) (and_from (nat_lt 0 n) (nat_lt 0 m) (lt-ltb 0 n some) (lt-ltb 0 m few)) (lt-ltb a (b + m) low)) (lt-ltb b (a + n) lower)))
-    | inr over ↦ inl over
-  ]
-  | inr over ↦ inr over
-]
 
 no_block : PoolBlock
 no_block = record { number = 0; block = General 0 [] }

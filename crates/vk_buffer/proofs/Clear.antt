@@ -1,11 +1,12 @@
 -- Ranges that don't conflict: what that says of their bytes and pages, and which of them answer for the others. Other crates cite it.
-use Rattle.std.proofs.Common.{◌≡◌, ℕ, ◌+◌, ◌-◌, ◌/◌, ◌<◌, ◌≤◌, ◌⊎◌, inl, inr, Bool, true, false, not, ◌&&◌, refl, ◌∙◌, arith}
+use Rattle.std.proofs.Common.{◌≡◌, ℕ, ◌+◌, ◌-◌, ◌/◌, ◌<◌, ◌≤◌, ◌⊎◌, inl, inr, true, false, not, ◌&&◌, refl, ◌∙◌, arith}
 use Rattle.std.specs.Prelude.{nat_lt, nat_le}
 use Rattle.std.proofs.lemmas.Bool.{lt-ltb, le-ltb, le-leb, lt-leb, cases_lt, or_parts, or_from, and_right, and_from, and_left}
 use Rattle.vk_model.specs.declared.resource.Kind.{Kind}
 use Rattle.vk_model.specs.declared.resource.Kind.TheVariants.{Linear, Optimal}
 use Rattle.vk_model.specs.Memory.Suballocation.{conflict, same_kind, ranges_meet, share_page}
-use Rattle.vk_model.proofs.Lists.Truths.{clash}
+use Rattle.vk_model.proofs.Lists.Truths.{clash, only_if_not, if_not}
+use Rattle.vk_model.proofs.Memory.Taken.{same_kind_turned}
 
 -- two ranges that have bytes and don't conflict: the one ends before the other, and on an earlier page where they aren't of one kind
 pub record IsClear (k : Kind) (a n : ℕ) (l : Kind) (b m : ℕ) : Type 0 where
@@ -13,12 +14,6 @@ pub record IsClear (k : Kind) (a n : ℕ) (l : Kind) (b m : ℕ) : Type 0 where
   pub pages : same_kind k l ≡ false → ((b + m - 1) / 1024 < a / 1024) ⊎ ((a + n - 1) / 1024 < b / 1024)
 
 -- ---- kinds
-
-pub kinds_turned : (k l : Kind) → same_kind k l ≡ same_kind l k
-kinds_turned Linear Linear = refl
-kinds_turned Linear Optimal = refl
-kinds_turned Optimal Linear = refl
-kinds_turned Optimal Optimal = refl
 
 -- of two kinds that differ, one differs from a third
 pub third_kind : (k l h : Kind) → same_kind k l ≡ false → (same_kind k h ≡ false) ⊎ (same_kind l h ≡ false)
@@ -37,18 +32,10 @@ meets a n b m n0 m0 low high = and_from _ _ (and_from _ _ (and_from _ _ (lt-ltb 
 shares : (a n b m : ℕ) → 0 < n → 0 < m → a / 1024 ≤ (b + m - 1) / 1024 → b / 1024 ≤ (a + n - 1) / 1024 → share_page a n b m ≡ true
 shares a n b m n0 m0 low high = and_from _ _ (and_from _ _ (and_from _ _ (lt-ltb 0 n n0) (lt-ltb 0 m m0)) (le-leb (a / 1024) ((b + m - 1) / 1024) low)) (le-leb (b / 1024) ((a + n - 1) / 1024) high)
 
-second_part : (s p : Bool) → (not s && p) ≡ false → s ≡ false → p ≡ false
-second_part true p h e = absurd cc
-second_part false p h e = h
-
-no_second_part : (s p : Bool) → (s ≡ false → p ≡ false) → (not s && p) ≡ false
-no_second_part true p f = refl
-no_second_part false p f = f refl
-
 pub clear_from : (k : Kind) (a n : ℕ) (l : Kind) (b m : ℕ) → 0 < n → 0 < m → conflict k a n l b m ≡ false → IsClear k a n l b m
 clear_from k a n l b m n0 m0 h =
     let parts = or_parts (ranges_meet a n b m) (not (same_kind k l) && share_page a n b m) h in
-    record { bytes = apart parts.0; pages = λ e. paged (second_part (same_kind k l) (share_page a n b m) parts.1 e) }
+    record { bytes = apart parts.0; pages = λ e. paged (if_not (same_kind k l) (share_page a n b m) parts.1 e) }
   where
     apart : ranges_meet a n b m ≡ false → (b + m ≤ a) ⊎ (a + n ≤ b)
     apart f = elim (cases_lt a (b + m)) [
@@ -63,7 +50,7 @@ clear_from k a n l b m n0 m0 h =
     ]
 
 pub clear_is : (k : Kind) (a n : ℕ) (l : Kind) (b m : ℕ) → IsClear k a n l b m → conflict k a n l b m ≡ false
-clear_is k a n l b m clear = or_from _ _ apart (no_second_part (same_kind k l) (share_page a n b m) paged)
+clear_is k a n l b m clear = or_from _ _ apart (only_if_not (same_kind k l) (share_page a n b m) paged)
   where
     apart : ranges_meet a n b m ≡ false
     apart = elim clear.bytes [
@@ -84,7 +71,7 @@ none_clear k a l b m = and_right (not (same_kind k l)) false refl
 pub clear_turned : (k : Kind) (a n : ℕ) (l : Kind) (b m : ℕ) → IsClear k a n l b m → IsClear l b m k a n
 clear_turned k a n l b m clear = record {
   bytes = elim clear.bytes [ inl le ↦ inr le | inr le ↦ inl le ];
-  pages = λ e. elim (clear.pages (kinds_turned k l ∙ e)) [ inl lt ↦ inr lt | inr lt ↦ inl lt ];
+  pages = λ e. elim (clear.pages (same_kind_turned k l ∙ e)) [ inl lt ↦ inr lt | inr lt ↦ inl lt ];
 }
 
 -- ---- which of those that don't conflict answer for the others
@@ -105,7 +92,7 @@ clear_after k o n l b m h q s n0 m0 s0 less more first clear = record {
   bytes = elim clear.bytes [ inl past ↦ absurd (omega arith) | inr ends ↦ inr (omega arith) ];
   pages = λ e. elim (third_kind k l h e) [
     | inl other ↦ elim (clear.pages other) [ inl lt ↦ absurd (omega arith) | inr lt ↦ inr (omega arith) ]
-    | inr other ↦ elim (first.pages (kinds_turned h l ∙ other)) [
+    | inr other ↦ elim (first.pages (same_kind_turned h l ∙ other)) [
       | inl lt ↦ absurd (omega arith)
       | inr lt ↦ inr (elim clear.bytes [ inl past ↦ absurd (omega arith) | inr ends ↦ omega arith ])
     ]

@@ -4,12 +4,11 @@ use Rattle.std.specs.Prelude.{Contains, IsSome, IfSome}
 use Rattle.std.specs.Cmp.{nat_cmp_total}
 use Rattle.std.specs.FinMap.{nat_cmp-IsAntisymmetric}
 use Rattle.std.specs.List.{list_any}
-use Rattle.std.specs.Ordering.{nat_cmp, is_gt, is_lt}
+use Rattle.std.specs.Ordering.{nat_cmp, is_lt}
 use Rattle.std.specs.BTreeMap.{BTreeMap, IsOrdered, get, is_at}
 use Rattle.std.specs.BTreeMap.Range.{IsRangeOf}
 use Rattle.std.specs.declared.ops.Bound.TheVariants.{Included, Unbounded}
 use Rattle.std.proofs.lemmas.Bool.{cases_lt, cases_eq, cases_order}
-use Rattle.std.proofs.lemmas.Grind.{common_steps}
 use Rattle.std.proofs.lemmas.Map.Views.{btree_map_get_iff}
 use Rattle.vk_model.specs.declared.resource.Kind.{Kind}
 use Rattle.vk_model.specs.Memory.Suballocation.{conflict}
@@ -19,17 +18,13 @@ use Rattle.vk_buffer.specs.declared.bindings.BoundResource.{BoundResource}
 use Rattle.vk_buffer.specs.BoundMemory.{conflicts_with}
 use Rattle.vk_buffer.specs.Inner.Neighbors.{AreApart, IsLastUpTo, IsFirstAfter, bound_at, conflicts_there}
 use Rattle.vk_buffer.proofs.Clear.{IsClear, clear_from, clear_is, none_clear, clear_turned, clear_before, clear_after}
+use Rattle.vk_model.proofs.Lists.Keys.{not_above, other_key}
+use Rattle.std.proofs.lemmas.Map.Keys.{le_from_not_gt}
 
 abbrev Bound : Type 0
 Bound = BTreeMap ℕ BoundResource
 
 -- ---- the last binding of a range of a map
-
-upto : (a b : ℕ) → is_gt (nat_cmp a b) ≡ false → a ≤ b
-upto a b e = grind arith
-
-is_upto : (a b : ℕ) → a ≤ b → is_gt (nat_cmp a b) ≡ false
-is_upto a b le = grind arith
 
 not_below : (a b : ℕ) → is_lt (nat_cmp a b) ≡ false → b ≤ a
 not_below a b e = grind arith
@@ -38,12 +33,12 @@ by_some : (o : Option BoundResource) (x : BoundResource) → o ≡ Some x → Is
 by_some o x e = search (rules, e)
 
 pub last_of_range : (m : Bound) (o : ℕ) (e : ℕ × BoundResource) (t r : List (ℕ × BoundResource)) → r ≡ t ++ e ∷ [] → IsRangeOf nat_cmp Unbounded (Included o) m r → IsLastUpTo m.entries o (Some e)
-last_of_range m o e t r is range = let at = range.3 e t is in (upto e.0 o at.0.1, at.1, λ q above low. go q above low (get nat_cmp m q) refl)
+last_of_range m o e t r is range = let at = range.3 e t is in (le_from_not_gt e.0 o at.0.1, at.1, λ q above low. go q above low (get nat_cmp m q) refl)
   where
     go : (q : ℕ) → e.0 < q → q ≤ o → (x : Option BoundResource) → get nat_cmp m q ≡ x → get nat_cmp m q ≡ None
     go q above low None at = at
     go q above low (Some x) at =
-        let le = not_below e.0 q (range.4 e t is q (tt, is_upto q o low) (by_some (get nat_cmp m q) x at)) in
+        let le = not_below e.0 q (range.4 e t is q (tt, not_above q o low) (by_some (get nat_cmp m q) x at)) in
         absurd (omega arith)
 
 -- ---- members
@@ -141,9 +136,6 @@ module _ (size : ℕ) (m : Bound) (apart : AreApart size m.entries) (ordered : I
 
 -- ---- one more
 
-is_other : (o q : ℕ) → (q ≡ o → ⊥) → is_at (nat_cmp o) q ≡ false
-is_other o q other = grind (arith, common_steps)
-
 module _ (size : ℕ) (old new : List (ℕ × BoundResource)) (apart : AreApart size old) (o : ℕ) (r : BoundResource) (some : 0 < r.size) (inside : o + r.size ≤ size)
     (clear : (a : ℕ) (x : BoundResource) → bound_at old a ≡ Some x → conflicts_with o r.size r.kind (a, x) ≡ false)
     (here : bound_at new o ≡ Some r) (others : (q : ℕ) → is_at (nat_cmp o) q ≡ false → bound_at new q ≡ bound_at old q) where
@@ -151,7 +143,7 @@ module _ (size : ℕ) (old new : List (ℕ × BoundResource)) (apart : AreApart 
   is_new a x same at = same_at new o a r x (sym same) here at
 
   was : (a : ℕ) (x : BoundResource) → (a ≡ o → ⊥) → bound_at new a ≡ Some x → bound_at old a ≡ Some x
-  was a x other at = sym (others a (is_other o a other)) ∙ at
+  was a x other at = sym (others a (other_key o a other)) ∙ at
 
   clear_of : (a : ℕ) (x : BoundResource) → bound_at old a ≡ Some x → IsClear r.kind o r.size x.kind a x.size
   clear_of a x at = clear_from r.kind o r.size x.kind a x.size some (apart.some a x at) (clear a x at)

@@ -1,7 +1,7 @@
 -- The points that come with an entry, on a device.
 use Rattle.std.proofs.Common.{◌≡◌, ℕ, suc, ◌+◌, ◌%◌, ◌<◌, ◌≤◌, ◌==◌, true, false, Option, Some, None, map, List, [], ◌∷◌, ◌++◌, length, take, drop, get_or, reverse, refl, ap, sym, ◌∙◌, subst, arith}
 use Rattle.std.proofs.lemmas.List.{get_or_past}
-use Rattle.std.specs.Prelude.{All, Contains, IsTrue, is_some, option_map, option_and_then, if◌then◌else◌}
+use Rattle.std.specs.Prelude.{Contains, IsTrue, is_some, option_map, option_and_then, if◌then◌else◌}
 use Rattle.std.specs.List.{find, flat_map, list_any}
 use Rattle.std.proofs.lemmas.Bool.{false_from_ne_true}
 use Rattle.std.proofs.lemmas.Grind.{take_at_read, common_steps}
@@ -31,7 +31,7 @@ use Rattle.vk_queues.specs.PointViews.{add, past_after}
 use Rattle.vk_queues.specs.IsWaiting.{IsWaiting}
 use Rattle.vk_offers.specs.IsOffers.{ComesNext, IsOffers, commands_in, is_run}
 use Rattle.vk_offers.specs.Laws.{OrderComesNext}
-use Rattle.vk_resources.specs.Fits.{FitsCommand, FitsFill, FitsClear, FitsRegions, FitsImages, NamesLive}
+use Rattle.vk_resources.specs.Fits.{FitsCommand, NamesLive}
 use Rattle.vk_backing.specs.Backed as backing
 use Rattle.vk_backing.specs.Backed.{Backed, allocation_of, info_by}
 use Rattle.vma_pools.specs.declared.allocations.Allocation.{Allocation}
@@ -42,7 +42,6 @@ use Rattle.vk_resources.proofs.Lying.{where_lies}
 use Rattle.vk_resources.specs.declared.resources.Placed.{Placed}
 use Rattle.vk_resources.specs.Matches.{MatchesLive}
 use Rattle.vk_resources.proofs.Matching.{matches_same}
-use Rattle.vk_transfer.specs.Copies.{FitsBuffers}
 use Rattle.vk_model.specs.Laws.{GrowthKeeps}
 use Rattle.vk_model.specs.Run.Pieces.{cut, row_bytes, clear_pieces, pieces}
 use Rattle.vk_model.specs.declared.resource.ImageInfo.{ImageInfo}
@@ -129,18 +128,6 @@ size_by l b = elim (buffer_by l b) [ None ↦ 0 | Some i ↦ i.size ]
 -- and the image of one
 abbrev image_by : List Entry → ℕ → Option ImageInfo
 image_by l i = option_and_then image_in (find (λ x. holds (made_by x) (λ j. i == j)) l)
-
-command_stays : (past all : Past) (c : Cmd) → entries all ≡ entries past → FitsCommand past c → FitsCommand all c
-command_stays past all (cmd.Fill b o n w) same fits = subst (λ (l : List Entry). FitsFill (buffer_by l b) o n) (sym same) fits
-command_stays past all (cmd.Update b o bytes) same fits = subst (λ (l : List Entry). o + length bytes ≤ size_by l b) (sym same) fits
-command_stays past all (cmd.Copy a b gs) same fits = subst (λ (l : List Entry). All (λ g. FitsBuffers g (size_by l a) (size_by l b)) gs) (sym same) fits
-command_stays past all (cmd.Barrier es) same fits = fits
-command_stays past all (cmd.Set v ms) same fits = tt
-command_stays past all (cmd.Await v ms) same fits = tt
-command_stays past all (cmd.Clear i l color rs) same fits = subst (λ (l : List Entry). FitsClear (image_by l i) rs) (sym same) fits
-command_stays past all (cmd.CopyIn b i l gs) same fits = subst (λ (l : List Entry). FitsRegions (image_by l i) (size_by l b) gs) (sym same) fits
-command_stays past all (cmd.CopyOut i l b gs) same fits = subst (λ (l : List Entry). FitsRegions (image_by l i) (size_by l b) gs) (sym same) fits
-command_stays past all (cmd.CopyImage a l b m gs) same fits = subst (λ (l : List Entry). FitsImages a b (image_by l a) (image_by l b) gs) (sym same) fits
 
 -- and so are the pieces of a command that fits
 count_stays : (past all : Past) (c : Cmd) → entries all ≡ entries past → FitsCommand past c → length (pieces all c) ≡ length (pieces past c)

@@ -1,5 +1,5 @@
 -- An entry that is applied, on a device.
-use Rattle.std.proofs.Common.{◌≡◌, ◌⊎◌, inl, inr, ℕ, zero, suc, ◌+◌, ◌<◌, ◌≤◌, arith, List, [], ◌∷◌, ◌++◌, length, Bool, true, false, ◌||◌, ◌==◌, refl, ap, sym, ◌∙◌, subst, cond, zero-add, Option, Some, None}
+use Rattle.std.proofs.Common.{◌≡◌, ℕ, zero, suc, ◌+◌, ◌<◌, ◌≤◌, arith, List, [], ◌∷◌, ◌++◌, length, Bool, true, false, ◌||◌, ◌==◌, refl, ap, sym, ◌∙◌, subst, cond, zero-add, Option, Some, None}
 use Rattle.std.specs.Prelude.{IsTrue, is_some, option_and_then, map, if◌then◌else◌}
 use Rattle.std.specs.List.{range_with_len}
 use Rattle.std.proofs.lemmas.List.{append_assoc}
@@ -40,7 +40,7 @@ use Rattle.vk_resources.proofs.Fitting.{live_made}
 use Rattle.vk_device.specs.declared.device.Device.{Device}
 use Rattle.vk_device.specs.Inner.Clean.{IsClean}
 use Rattle.vk_device.specs.Inner.Ready.{HostDone, HasTouched, Picks}
-use Rattle.vk_device.specs.Led.{Led, IsBefore, Applies, Reads, IsNext}
+use Rattle.vk_device.specs.Led.{Led, IsBefore, Applies, Reads}
 use Rattle.vk_device.proofs.Clean.{fits_clean, clean_entry, clean_order, made_next}
 use Rattle.vk_device.proofs.Coming.{clean_trace}
 
@@ -58,13 +58,6 @@ clean_next t steps s x xs d sound runs following h =
 
 pub fits_next : (e : ℕ) (x : Entry) (past : Past) → IsClean (host e x ∷ past) → FitsEntry past x
 fits_next e x past clean = (fits_clean (host e x ∷ past) clean).0
-
-pub next_works : (d : Device) (x : Entry) → d.failed ≡ false → IsTrue d.failed ⊎ IsNext d x → IsNext d x
-next_works d x works (inl failed) = absurd cc
-next_works d x works (inr next) = next
-
-pub fits_some : (d : Device) (x : Entry) → NoFaultIsSound → DirectRunsAreRuns → DefinedRunsFollow → IsNext d x → (past : Past) × FitsEntry past x
-fits_some d x sound runs following r = (r.2.front.past, fits_next r.2.count x r.2.front.past (clean_next r.0 r.1 r.2 x r.3 d sound runs following r.4))
 
 -- ---- what is new
 

@@ -17,8 +17,7 @@ use Rattle.vk_model.specs.World.Bytes.{Byte, in_buffer, in_image, resource_at}
 use Rattle.vk_model.specs.World.ByteWrites.{ByteWrite, Source, Value, From}
 use Rattle.vk_model.specs.Laws.{PiecesAreByteWrites}
 use Rattle.vk_laws.proofs.Running.OfferedPieces.{offered_of}
-use Rattle.vk_offers.proofs.Growing.{get_some}
-use Rattle.vk_offers.proofs.Steps.{get_mapped, piece_low, piece_of}
+use Rattle.vk_offers.proofs.Steps.{piece_low, piece_of}
 use Rattle.vk_model.specs.Trace.Order.{order}
 use Rattle.vk_model.specs.Rules.Table.{first_fault}
 use Rattle.vk_model.specs.Run.Pieces.{pieces}
@@ -50,6 +49,7 @@ use Rattle.vk_device.specs.Led.{Led, AreWorks}
 use Rattle.vk_device.specs.Inner.Fits.{FitsAction, AllFit}
 use Rattle.vk_device.proofs.Staying.{later_fits}
 use Rattle.vk_device.proofs.Sources.{sources_there}
+use Rattle.vk_model.proofs.Lists.Items.{get_mapped, item_at}
 
 -- ---- the command of a node
 
@@ -118,7 +118,7 @@ module _ (past : Past) (done : List Name) (o : Offers) (is : IsOffers o past don
       let all : map Runs works ≡ map (λ d. Runs d.now) o.commands.items = are ∙ sym is.acts in
       let long : length works ≡ length o.commands.items = sym (length-map works Runs) ∙ ap (λ (l : List Act). length l) all ∙ length-map o.commands.items (λ d. Runs d.now) in
       let low = piece_low o past done is piece at in
-      let c = get_some works piece.command (omega (arith, low, long)) in
+      let c = item_at works piece.command (omega (arith, low, long)) in
       (c.0, c.1, piece_of o past done is piece at c.0 (sym (ap (λ (l : List Act). slice_get l piece.command) all) ∙ get_mapped Runs works piece.command c.0 c.1))
 
   -- which is found among them by the piece's command

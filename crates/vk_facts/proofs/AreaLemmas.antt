@@ -6,7 +6,6 @@ use Rattle.std.proofs.lemmas.Bool.{eq-eqb, eqb-true, leb-true, ltb-true, le-leb,
 use Rattle.std.proofs.lemmas.List.{take_more, append-nil}
 use Rattle.std.proofs.lemmas.Grind.{flat_map-append}
 use Rattle.std.proofs.Math.Nat.{div-lt_iff_lt-mul}
-use Rattle.std.proofs.Math.Bool.{and-false}
 use Rattle.std.proofs.lemmas.Nat.{mul-add-lt}
 use Rattle.vk_model.specs.declared.command.BufferImageCopy.{BufferImageCopy}
 use Rattle.vk_model.specs.declared.command.SubresourceRange.{SubresourceRange}
@@ -17,7 +16,7 @@ use Rattle.vk_model.specs.World.Bytes.{Byte, in_buffer, in_image}
 use Rattle.vk_model.specs.World.ByteWrites.{buffer_texel, row_texels, layer_rows, level_bytes}
 use Rattle.vk_model.specs.Sync.Access.{bytes_of}
 use Rattle.vk_model.proofs.Lists.Truths.{no, bool_same}
-use Rattle.vk_model.proofs.Lists.Members.{map_has, mapped_from, flat_from, flat_has}
+use Rattle.vk_model.proofs.Lists.Members.{map_has, mapped_from, flat_from, flat_has, below_from}
 use Rattle.vk_model.proofs.Lists.Grids.{grid_from, grid_has, below_has}
 use Rattle.vk_model.proofs.Lists.Rows.{flat_more}
 use Rattle.vk_facts.specs.declared.areas.Area.{Area}
@@ -25,7 +24,7 @@ use Rattle.vk_facts.specs.declared.areas.Area.TheVariants as area
 use Rattle.vk_facts.specs.declared.areas.Texels.{Texels}
 use Rattle.vk_facts.specs.Areas.{has, is_between, AreAreas, IsNumbered}
 use Rattle.vk_facts.specs.Inner.Parts.{row_bytes, texel_bytes, level_part}
-use Rattle.vk_facts.proofs.Members.{below_from, one_area, no_area, areas_same, areas_append}
+use Rattle.vk_facts.proofs.Members.{one_area, no_area, areas_same, areas_append}
 
 -- ---- numbers between
 
@@ -252,15 +251,6 @@ ranges_apart b low high d l h differ (in_buffer e k) = false_from_ne_true (has (
     let both = and_parts (has (area.Bytes b low high) (in_buffer e k)) (has (area.Bytes d l h) (in_buffer e k)) f in
     differ (eqb-true b e (and_parts (b == e) (is_between low high k) both.0).0 ∙ sym (eqb-true d e (and_parts (d == e) (is_between l h k) both.1).0)))
 
--- a range and texels have no byte in common
-pub kinds_apart : (b low high : ℕ) (t : Texels) (c : Byte) → (has (area.Bytes b low high) c && has (area.Texels t) c) ≡ false
-kinds_apart b low high t (in_image i a z x y p) = refl
-kinds_apart b low high t (in_buffer e k) = and-false _
-
-pub kinds_apart_too : (b low high : ℕ) (t : Texels) (c : Byte) → (has (area.Texels t) c && has (area.Bytes b low high) c) ≡ false
-kinds_apart_too b low high t (in_image i a z x y p) = and-false _
-kinds_apart_too b low high t (in_buffer e k) = refl
-
 -- ---- levels
 
 -- a level's bytes are its texels
@@ -367,13 +357,6 @@ past_rows g t z y n some some_bytes le =
     let a : ℕ = z * layer_rows g + y in
     let first : a ≤ a * row_texels g = grown a (row_texels g) some in
     past_texels g t z y n some_bytes (omega arith)
-
--- where a row begins, by its parts
-pub row_place : (g : BufferImageCopy) (t z y rows place texels bytes start : ℕ) → rows ≡ z * layer_rows g → place ≡ rows + y → texels ≡ place * row_texels g → bytes ≡ texels * t → start ≡ g.buffer_offset + bytes → start ≡ buffer_texel g t z y 0 0
-row_place g t z y rows place texels bytes start a b c d e = e ∙ rw (d, c, b, a) (go ((z * layer_rows g + y) * row_texels g))
-  where
-    go : (m : ℕ) → g.buffer_offset + m * t ≡ g.buffer_offset + (m + 0) * t + 0
-    go m = omega arith
 
 -- ---- one region more
 

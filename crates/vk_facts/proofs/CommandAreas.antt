@@ -17,12 +17,12 @@ use Rattle.vk_model.specs.Trace.Image.{texel}
 use Rattle.vk_model.specs.World.Bytes.{Byte, in_buffer, in_image}
 use Rattle.vk_model.specs.World.ByteWrites.{ByteWrite, Value, From, byte_write, copy_writes, clear_write, clear_writes, copy_in_writes, copy_out_writes, copy_image_writes, buffer_texel, image_texel, subresource_bytes, level_bytes, byte_writes, buffer_size, fill_size}
 use Rattle.vk_model.specs.Sync.Access.{bytes_of, origin, origins, targets, image_bytes}
-use Rattle.vk_model.proofs.Lists.Members.{none_in, contains-cons, contains-head, contains-tail, map_has, mapped_from, flat_from, flat_has}
+use Rattle.vk_model.proofs.Lists.Members.{none_in, contains-cons, contains-head, contains-tail, map_has, mapped_from, flat_from, flat_has, below_from}
 use Rattle.vk_model.proofs.Lists.Grids.{grid_from, grid_has, below_has}
 use Rattle.vk_facts.specs.declared.areas.Area.{Area}
 use Rattle.vk_facts.specs.Areas.{AreAreas}
 use Rattle.vk_facts.specs.Inner.Parts.{region_bytes, box_bytes, source_bytes, destination_bytes, level_part, range_part}
-use Rattle.vk_facts.proofs.Members.{below_from, no_area, areas_none, areas_same, origins_from, origins_has, targets_from, targets_has, all_origins, all_targets}
+use Rattle.vk_facts.proofs.Members.{no_area, areas_none, areas_same, origins_from, origins_has, targets_from, targets_has, all_origins, all_targets}
 use Rattle.vk_facts.proofs.AreaLemmas.{bytes_has, bytes_from}
 
 -- ---- byte writes of ranges and of grids

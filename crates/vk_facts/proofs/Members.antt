@@ -12,33 +12,9 @@ use Rattle.vk_model.specs.World.ByteWrites.{ByteWrite}
 use Rattle.vk_model.specs.Sync.Access.{is_in, origin, origins, targets}
 use Rattle.vk_model.proofs.Lists.Truths.{no}
 use Rattle.vk_model.proofs.Lists.Members.{none_in, member_passes, some_member, map_has, mapped_from, flat_from, flat_has, chosen_has, chosen_from, range_from}
-use Rattle.vk_model.proofs.World.BytePlaces.{buffer_same, image_same}
+use Rattle.vk_model.proofs.World.BytePlaces.{buffer_same, image_same, is_in_from, is_in_of}
 use Rattle.vk_facts.specs.declared.areas.Area.{Area}
 use Rattle.vk_facts.specs.Areas.{has, have, AreAreas, IsNumbered}
-
--- ---- a byte among others
-
-same_itself : (b : Byte) → same_byte b b ≡ true
-same_itself (in_buffer c k) = rw (eq-eqb c c refl, eq-eqb k k refl) refl
-same_itself (in_image i a l x y p) = rw (eq-eqb i i refl, eq-eqb a a refl, eq-eqb l l refl, eq-eqb x x refl, eq-eqb y y refl, eq-eqb p p refl) refl
-
-same_from : (b c : Byte) → same_byte b c ≡ true → b ≡ c
-same_from (in_buffer b k) (in_buffer c l) e = let s = buffer_same b k c l e in let s0 : b ≡ c = s.0 in let s1 : k ≡ l = s.1 in cc
-same_from (in_image i a l x y p) (in_image j c m u v q) e =
-    let s = image_same i a l x y p j c m u v q e in rw (s.image, s.level, s.layer, s.x_is, s.y_is, s.part) refl
-same_from (in_buffer b k) (in_image j c m u v q) e = no e
-same_from (in_image i a l x y p) (in_buffer c k) e = no e
-
-pub is_in_from : (b : Byte) (bs : List Byte) → is_in b bs ≡ true → Contains bs b
-is_in_from b bs h = let m = some_member (same_byte b) bs h in subst (λ (c : Byte). Contains bs c) (sym (same_from b m.0 m.2)) m.1
-
-pub is_in_has : (b : Byte) (bs : List Byte) → Contains bs b → is_in b bs ≡ true
-is_in_has b bs c = member_passes (same_byte b) bs b c (same_itself b)
-
--- ---- members of what is made of numbers
-
-pub below_from : (n k : ℕ) → Contains (below n) k → k < n
-below_from n k c = let r = range_from 0 n k c in omega (arith, r.1)
 
 -- ---- what areas have
 
@@ -51,7 +27,7 @@ of_one a b h = or-false (has a b) ∙ h
 -- one area has these bytes
 pub one_area : (a : Area) (bs : List Byte) → ((b : Byte) → has a b ≡ true → Contains bs b) → ((b : Byte) → IsNumbered b → Contains bs b → has a b ≡ true) → AreAreas (a ∷ []) bs
 one_area a bs inside whole = record {
-  inside = λ b h. is_in_has b bs (inside b (one_has a b h));
+  inside = λ b h. is_in_of b bs (inside b (one_has a b h));
   whole = λ b n h. of_one a b (whole b n (is_in_from b bs h));
 }
 
@@ -65,8 +41,8 @@ areas_none = no_area [] (λ b n c. absurd (none_in b c))
 -- the same bytes in another list
 pub areas_same : (areas : List Area) (bs cs : List Byte) → ((b : Byte) → Contains bs b → Contains cs b) → ((b : Byte) → Contains cs b → Contains bs b) → AreAreas areas bs → AreAreas areas cs
 areas_same areas bs cs to from are = record {
-  inside = λ b h. is_in_has b cs (to b (is_in_from b bs (are.inside b h)));
-  whole = λ b n h. are.whole b n (is_in_has b bs (from b (is_in_from b cs h)));
+  inside = λ b h. is_in_of b cs (to b (is_in_from b bs (are.inside b h)));
+  whole = λ b n h. are.whole b n (is_in_of b bs (from b (is_in_from b cs h)));
 }
 
 -- areas of some bytes, and areas of others
@@ -78,14 +54,14 @@ areas_append xs ys bs cs first second = record { inside = inside; whole = whole 
     either b false q h f g = g h
 
     inside : (b : Byte) → have (xs ++ ys) b ≡ true → is_in b (bs ++ cs) ≡ true
-    inside b h = is_in_has b (bs ++ cs) (either b (have xs b) (have ys b) (sym (list_any-append (λ a. has a b) xs ys) ∙ h)
+    inside b h = is_in_of b (bs ++ cs) (either b (have xs b) (have ys b) (sym (list_any-append (λ a. has a b) xs ys) ∙ h)
         (λ e. Contains-append_left bs cs b (is_in_from b bs (first.inside b e)))
         (λ e. Contains-append_right bs cs b (is_in_from b cs (second.inside b e))))
 
     whole : (b : Byte) → IsNumbered b → is_in b (bs ++ cs) ≡ true → have (xs ++ ys) b ≡ true
     whole b n h = list_any-append (λ a. has a b) xs ys ∙ ⊎_elim
-        (λ c. or_left (have xs b) (have ys b) (first.whole b n (is_in_has b bs c)))
-        (λ c. or_right (have xs b) (have ys b) (second.whole b n (is_in_has b cs c)))
+        (λ c. or_left (have xs b) (have ys b) (first.whole b n (is_in_of b bs c)))
+        (λ c. or_right (have xs b) (have ys b) (second.whole b n (is_in_of b cs c)))
         (Contains-append_cases bs cs b (is_in_from b (bs ++ cs) h))
 
 -- ---- what byte writes read and write

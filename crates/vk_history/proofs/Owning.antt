@@ -40,6 +40,7 @@ use Rattle.vk_history.specs.Tabled.{AreObjects}
 use Rattle.vk_history.specs.Uses.{AreElementCounts}
 use Rattle.vk_history.specs.Counted.{is_id}
 use Rattle.vk_history.specs.Owners.{Kept, owner_now, kept_at, IsLastRelease, IsOwned, AreOwned, AreOwners, owned_by, released_by, is_transition_of, after_half, half_of, after_element}
+use Rattle.std.proofs.Math.Bool.{and-false}
 
 -- ---- uses
 
@@ -205,10 +206,6 @@ element_comes past w ns n numbers q on e is s line at old new same are r =
     is_release_now : is_release_of r n ≡ (releases t && is_id r (named_by e))
     is_release_now = ap (λ (a : Act). holds (element_in a) (λ x. is_release n.point.queue x && holds (named_by x) (λ i. i == r))) is ∙ ap (λ (k : ℕ). is_release k e && holds (named_by e) (λ i. i == r)) on ∙ release_now r q e
 
-    and_off : (b : Bool) → (b && false) ≡ false
-    and_off true = refl
-    and_off false = refl
-
     by_half : (u : Transfer) → t ≡ u → is_id r (named_by e) ≡ true → IsOwned (after_half past f e s r u (kept_at old r)) (owner_half past f e r u (w.owner r)) (n ∷ ns) r
     by_half Stays g h = go (is_transition_of e && is_exclusive past r) where
       go : (b : Bool) → IsOwned (if b then Some (owned_by f) else kept_at old r) (if b then world.Family f else w.owner r) (n ∷ ns) r
@@ -220,7 +217,7 @@ element_comes past w ns n numbers q on e is s line at old new same are r =
 
     by_name : (b : Bool) → is_id r (named_by e) ≡ b → IsOwned (if is_id r (named_by e) then after_half past f e s r t (kept_at old r) else kept_at old r) (if is_id r (named_by e) then owner_half past f e r t (w.owner r) else w.owner r) (n ∷ ns) r
     by_name true h = rw h (by_half t refl h)
-    by_name false h = rw h (other_node ns n numbers r (kept_at old r) (w.owner r) (is_release_now ∙ ap (λ (b : Bool). releases t && b) h ∙ and_off (releases t)) (are r))
+    by_name false h = rw h (other_node ns n numbers r (kept_at old r) (w.owner r) (is_release_now ∙ ap (λ (b : Bool). releases t && b) h ∙ and-false (releases t)) (are r))
 
 -- ---- the elements of a barrier, one after another
 

@@ -17,13 +17,13 @@ use Rattle.vk_model.specs.World.ByteWrites.{ByteWrite, byte_write, From, buffer_
 use Rattle.vk_model.proofs.Lists.Pairs.{Each, each_flat, each_range, each_of}
 use Rattle.vk_model.proofs.Lists.Rows.{flat_flat, flat_mapped, flat_below, map_below, mapped_rows}
 use Rattle.vk_model.proofs.Rules.Limits.{within_limit}
-use Rattle.vk_image_tiles.proofs.LevelBounds.{some_bytes}
 use Rattle.vk_image_bytes.specs.declared.rows.Places.{Places}
 use Rattle.vk_image_bytes.specs.declared.rows.Rows.{Rows}
 use Rattle.vk_image_bytes.specs.Copies.{numbered_writes}
 use Rattle.vk_image_bytes.specs.Numbers.{level_first, layer_byte_count, byte_count, number_of, byte_of}
 use Rattle.vk_image_bytes.specs.Inner.Rows.{LiesWithin, RowsFit, place_at, buffer_places, image_places, row_copy, layer_copies, row_copies}
 use Rattle.vk_image_bytes.proofs.Numbering.{quotient_below, byte_of_number, number_below}
+use Rattle.vk_model.proofs.World.BytePlaces.{texel_some}
 
 -- ---- boxes that lie in an image
 
@@ -86,7 +86,7 @@ module _ (m : ImageInfo) (good : bad_image m ≡ false) (i : ℕ) (k : Box) (b :
       within : (z y : ℕ) → z < k.layers → y < k.height → place_at box_places z y + k.width * texel m.format ≤ byte_count m
       within z y lz ly =
           let t : ℕ = texel m.format in
-          let some = some_bytes m.format in
+          let some = texel_some m.format in
           let last : number_of m k.level (k.first_layer + z) (k.x + (k.width - 1)) (k.y + y) (t - 1) < byte_count m =
           number_below m (record { level = k.level; layer = k.first_layer + z; x = k.x + (k.width - 1); y = k.y + y; texel_byte = t - 1 })
           (record { shaped = good; level_there = b.level; layer_there = omega (arith, b.layers); x_there = omega (arith, b.columns, b.some_columns); y_there = omega (arith, b.rows); texel_byte_there = omega arith }) in

@@ -56,9 +56,6 @@ split_all : {X : Type 0} (P : X → Type 0) (xs ys : List X) → All P (xs ++ ys
 split_all P [] ys a = (All-nil P, a)
 split_all P (x ∷ xs) ys a = let rest = split_all P xs ys (All-tail P x (xs ++ ys) a) in (All-cons P x xs (All-head P x (xs ++ ys) a) rest.0, rest.1)
 
-pub none_added : (c : Copies) → AreAdded c c []
-none_added c = record { writes = λ from to. sym (append-nil (gathered c from to)); within = λ s d none all. all }
-
 pub more_added : (a b c : Copies) (gs hs : List BufferCopy) → AreAdded a b gs → AreAdded b c hs → AreAdded a c (gs ++ hs)
 more_added a b c gs hs first second = record {
   writes = λ from to.

@@ -10,8 +10,10 @@ use Rattle.vk_model.specs.Basics.{below}
 use Rattle.vk_model.specs.Trace.Image.{texel, level_width, level_height}
 use Rattle.vk_model.specs.Rules.Sizes.{bad_image}
 use Rattle.vk_image_tiles.proofs.Levels.{sum_more, sum_rises}
-use Rattle.vk_image_tiles.proofs.LevelBounds.{some_bytes, few_bytes, counts, starts_more}
+use Rattle.vk_image_tiles.proofs.LevelBounds.{few_bytes, counts, starts_more}
 use Rattle.vk_image_bytes.specs.Numbers.{level_byte_count, level_first}
+use Rattle.std.proofs.Math.Nat.{mul-pos}
+use Rattle.vk_model.proofs.World.BytePlaces.{texel_some}
 
 -- ---- one level more
 
@@ -34,12 +36,9 @@ level_rises m j k le =
 
 -- ---- sizes
 
-positive : (a b : ℕ) → 0 < a → 0 < b → 0 < a * b
-positive a b p q = let le : 1 * 1 ≤ a * b = mul-le 1 1 a b (omega arith) (omega arith) in omega arith
-
 -- each level has bytes
 pub some_in_level : (m : ImageInfo) (k : ℕ) → 0 < level_byte_count m k
-some_in_level m k = positive (level_height m k * level_width m k) (texel m.format) (positive (level_height m k) (level_width m k) (omega arith) (omega arith)) (some_bytes m.format)
+some_in_level m k = mul-pos (mul-pos {m = level_height m k} {n = level_width m k} (omega arith) (omega arith)) (texel_some m.format)
 
 few_texels : (side k : ℕ) → side ≤ 4096 → max 1 (side / 2 ^ k) ≤ 4096
 few_texels side k few = let halved : side / 2 ^ k ≤ side = shr_le side k in omega arith

@@ -12,8 +12,7 @@ use Rattle.vk_model.specs.Rules.Sizes.{bad_image}
 use Rattle.vk_model.specs.Memory.PlaceLaws.{TexelByte, HasByte}
 use Rattle.vk_model.specs.World.Bytes.{in_image, same_byte}
 use Rattle.vk_model.proofs.Lists.Truths.{bool_same}
-use Rattle.vk_model.proofs.World.BytePlaces.{image_same}
-use Rattle.vk_image_tiles.proofs.LevelBounds.{some_bytes}
+use Rattle.vk_model.proofs.World.BytePlaces.{image_same, texel_some}
 use Rattle.vk_image_bytes.specs.Numbers.{level_byte_count, level_first, layer_byte_count, byte_count, number_of, layer_at, level_at, before_in_level, numbered, byte_in, byte_of}
 use Rattle.vk_image_bytes.proofs.Levels.{level_more, level_zero, level_rises, counted}
 
@@ -146,8 +145,8 @@ module _ (m : ImageInfo) where
         level_there = l.level_there;
         layer_there = l.layer_there;
         x_there = mod_below (before_in_level m k / t) w (omega arith);
-        y_there = row_below w (level_height m (level_at m k)) t (before_in_level m k) (omega arith) (some_bytes m.format) l.place_there;
-        texel_byte_there = mod_below (before_in_level m k) t (some_bytes m.format);
+        y_there = row_below w (level_height m (level_at m k)) t (before_in_level m k) (omega arith) (texel_some m.format) l.place_there;
+        texel_byte_there = mod_below (before_in_level m k) t (texel_some m.format);
       }
 
   pub number_numbered : (k : ℕ) → k < byte_count m → (let b = numbered m k in number_of m b.level b.layer b.x b.y b.texel_byte ≡ k)

@@ -63,15 +63,6 @@ counts i good =
     let one = or_parts (is_outside 4096 i.width) (is_outside 4096 i.height) two.0 in
     record { width = counted 4096 i.width one.0; height = counted 4096 i.height one.1; layers = counted 256 i.layers two.1; levels = levels_counted i.tiling i three.1 }
 
-pub some_bytes : (f : Format) → 0 < texel f
-some_bytes format.R8Uint = omega arith
-some_bytes format.R8G8Uint = omega arith
-some_bytes format.R8G8B8A8Uint = omega arith
-some_bytes format.R16Uint = omega arith
-some_bytes format.R32Uint = omega arith
-some_bytes format.R32G32Uint = omega arith
-some_bytes format.R32G32B32A32Uint = omega arith
-
 pub few_bytes : (f : Format) → texel f ≤ 16
 few_bytes format.R8Uint = omega arith
 few_bytes format.R8G8Uint = omega arith

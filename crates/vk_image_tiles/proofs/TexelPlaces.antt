@@ -9,7 +9,7 @@ use Rattle.vk_model.specs.Rules.Sizes.{bad_image}
 use Rattle.vk_model.specs.Memory.Addresses.{address, level_start, subresource_layout, number_in_tile}
 use Rattle.vk_model.specs.Memory.PlaceLaws.{TexelByte, HasByte, TexelsInside, SubresourcesHold}
 use Rattle.vk_image_tiles.specs.Inner.Kept.{IsKept}
-use Rattle.vk_image_tiles.proofs.LevelBounds.{some_bytes}
+use Rattle.vk_model.proofs.World.BytePlaces.{texel_some}
 
 -- a texel of an image of a good shape
 pub record HasTexel (i : ImageInfo) (level layer x y : ℕ) : Type 0 where
@@ -22,7 +22,7 @@ pub record HasTexel (i : ImageInfo) (level layer x y : ℕ) : Type 0 where
 -- the bytes of a texel end in the image
 pub texel_ends : TexelsInside → (i : ImageInfo) (level layer x y : ℕ) → HasTexel i level layer x y → address i i.tiling level layer x y + texel i.format ≤ image_size i i.tiling
 texel_ends law i level layer x y t =
-    let some = some_bytes i.format in
+    let some = texel_some i.format in
     let b : TexelByte = record { level = level; layer = layer; x = x; y = y; texel_byte = texel i.format - 1 } in
     let there : HasByte i b = record { shaped = t.shaped; level_there = t.level_there; layer_there = t.layer_there; x_there = t.x_there; y_there = t.y_there; texel_byte_there = omega arith } in
     omega (arith, law i b there)
@@ -68,7 +68,7 @@ pub level_ends : SubresourcesHold → (i : ImageInfo) (k : Kind) → i.tiling �
     → (let l = subresource_layout i k level layer in l.offset + l.size ≤ image_size i i.tiling)
 level_ends law i k is level layer good l m =
     let b : TexelByte = record { level = level; layer = layer; x = 0; y = 0; texel_byte = 0 } in
-    let there : HasByte i b = record { shaped = good; level_there = l; layer_there = m; x_there = omega arith; y_there = omega arith; texel_byte_there = some_bytes i.format } in
+    let there : HasByte i b = record { shaped = good; level_there = l; layer_there = m; x_there = omega arith; y_there = omega arith; texel_byte_there = texel_some i.format } in
     subst (λ (n : Kind). let l = subresource_layout i n level layer in l.offset + l.size ≤ image_size i i.tiling) is (law i b there).inside
 
 pub tiled_layout : (i : ImageInfo) (level layer start size : ℕ) → start ≡ layer * layer_size i + level_start i level → size ≡ level_size i level

@@ -1,5 +1,5 @@
 -- A row of a region in a buffer: its texels' places, and what is read of them.
-use Rattle.std.proofs.Common.{◌≡◌, ℕ, ◌+◌, ◌-◌, ◌*◌, ◌<◌, ◌≤◌, List, false, eqb, refl, ap, sym, ◌∙◌, arith, slice_index, Option, Some}
+use Rattle.std.proofs.Common.{◌≡◌, ℕ, ◌+◌, ◌-◌, ◌*◌, ◌<◌, ◌≤◌, List, false, eqb, refl, ap, ◌∙◌, arith, slice_index, Option, Some}
 use Rattle.std.proofs.lemmas.Nat.{same_from_place}
 use Rattle.vk_model.specs.declared.command.BufferImageCopy.{BufferImageCopy}
 use Rattle.vk_model.specs.World.Bytes.{Byte, in_buffer, resource_at}
@@ -7,7 +7,7 @@ use Rattle.vk_model.specs.World.ByteWrites.{Source, buffer_texel}
 use Rattle.vk_transfer.specs.Ran.{given, HaveRun}
 use Rattle.vk_image_transfer.specs.Held.{Held, buffer_at, byte_held, bytes_held}
 use Rattle.vk_image_transfer.specs.Rows.{AreWritten, RegionFits, buffer_row}
-use Rattle.vk_image_transfer.specs.Inner.Lines.{line_place, line_texel, line_first, LineFits, LineApart}
+use Rattle.vk_image_transfer.specs.Inner.Lines.{line_place, line_texel, line_first, LineFits}
 use Rattle.vk_image_transfer.specs.declared.lines.Line.{Line}
 use Rattle.vk_image_transfer.proofs.Keeping.{RowInside}
 use Rattle.vk_image_transfer.proofs.Places.{buffer_byte_at, buffer_apart, read_held}
@@ -38,9 +38,6 @@ module _ (g : BufferImageCopy) (t start z y : ℕ) (z_there : z < g.layers) (y_t
       let one : (buffer_row g t start z y x + p) ≡ buffer_row g t start z y 0 + (x * t + p) = omega arith in
       let two : (buffer_row g t start z y u + q) ≡ buffer_row g t start z y 0 + (u * t + q) = omega arith in
       (same_from_place x p u q t low high (omega (arith, one, two, same))).0
-
-  pub line_apart : (l : Line) (w : ℕ) → ((x : ℕ) → line_place l x ≡ buffer_row g t start z y x) → LineApart l w t
-  line_apart l w places x p u q lx lu lp lq same = row_apart x p u q lp lq (ap (λ (k : ℕ). k + p) (sym (places x)) ∙ same ∙ ap (λ (k : ℕ). k + q) (places u))
 
   -- what is read of the row, of a buffer of n bytes
   pub buffer_read : (b n : ℕ) (xs : List ℕ) (held : ℕ → Option Held) → held b ≡ Some (buffer_at xs start n) → RegionFits g t n → (x p : ℕ) → x < g.width → p < t

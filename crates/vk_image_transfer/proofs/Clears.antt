@@ -20,6 +20,8 @@ use Rattle.vk_image_transfer.specs.Rows.{AreWritten, image_row}
 use Rattle.vk_image_transfer.proofs.Grids.{grid_piece, grid_count}
 use Rattle.vk_image_transfer.proofs.Running.{row_writes}
 use Rattle.vk_image_transfer.proofs.ImageRows.{RowThere, image_ran}
+use Rattle.std.proofs.Math.Nat.{mul-pos}
+use Rattle.vk_model.proofs.World.BytePlaces.{texel_some}
 
 -- ---- what a function makes of a grid
 
@@ -34,22 +36,6 @@ mapped_twice {A} {B} {C} h f (x ∷ xs) = ap (λ (l : List C). h (f x) ∷ l) (m
 mapped_grid : {B C : Type 0} (h : B → C) (a b c d : ℕ) (f : ℕ → ℕ → ℕ → ℕ → B) → map h (grid a b c d f) ≡ grid a b c d (λ i j k l. h (f i j k l))
 mapped_grid h a b c d f = mapped_flat h _ _ (below a) (λ i. mapped_flat h _ _ (below b) (λ j. mapped_flat h _ _ (below c) (λ k. mapped_twice h (λ l. f i j k l) (below d))))
 
--- ---- texels have bytes
-
-pub texel_some : (f : Format) → 0 < texel f
-texel_some format.R8Uint = omega arith
-texel_some format.R8G8Uint = omega arith
-texel_some format.R8G8B8A8Uint = omega arith
-texel_some format.R16Uint = omega arith
-texel_some format.R32Uint = omega arith
-texel_some format.R32G32Uint = omega arith
-texel_some format.R32G32B32A32Uint = omega arith
-
-pub product_some : (a b : ℕ) → 0 < a → 0 < b → 0 < a * b
-product_some zero b x y = absurd (omega arith)
-product_some (suc a) zero x y = absurd (omega arith)
-product_some (suc a) (suc b) x y = omega arith
-
 -- ---- pieces
 
 -- a piece, if there is one
@@ -62,7 +48,7 @@ module _ (i : ℕ) (color : List ℕ) (m : ImageInfo) (r : SubresourceRange) (le
   write z y x p = clear_write m color (in_image i level (r.first_layer + z) x y p, p)
 
   some_bytes : 0 < level_width m level * texel m.format
-  some_bytes = product_some (level_width m level) (texel m.format) (omega arith) (texel_some m.format)
+  some_bytes = mul-pos {m = level_width m level} (omega arith) (texel_some m.format)
 
   as_grid : level_pieces i color m r level ≡ cut (level_width m level * texel m.format) (grid r.layers (level_height m level) (level_width m level) (texel m.format) write)
   as_grid = ap (λ (l : List ByteWrite). cut (level_width m level * texel m.format) l) (mapped_grid (clear_write m color) r.layers (level_height m level) (level_width m level) (texel m.format) (λ z y x b. (in_image i level (r.first_layer + z) x y b, b)))

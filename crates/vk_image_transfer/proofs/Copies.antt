@@ -9,7 +9,7 @@ use Rattle.vk_model.specs.Trace.Image.{texel}
 use Rattle.vk_model.specs.Rules.Sizes.{bad_image}
 use Rattle.vk_model.specs.Memory.PlaceLaws.{TexelByte, HasByte, TexelsApart}
 use Rattle.vk_model.specs.World.Areas.{boxes_meet, source_box, destination_box}
-use Rattle.vk_model.proofs.World.BytePlaces.{common_meets}
+use Rattle.vk_model.proofs.World.BytePlaces.{common_meets, texel_some}
 use Rattle.vk_model.specs.World.Bytes.{Byte, in_buffer, in_image, resource_at}
 use Rattle.vk_model.specs.World.ByteWrites.{ByteWrite, byte_write, From, buffer_texel, image_texel}
 use Rattle.vk_model.specs.Run.Pieces.{cut}
@@ -20,16 +20,17 @@ use Rattle.vk_image_transfer.specs.Rows.{AreWritten, BoxFits, RegionFits, RowsAp
 use Rattle.vk_image_transfer.specs.Inner.Lines.{rows_of}
 use Rattle.vk_image_transfer.proofs.Grids.{grid_piece, grid_count, grid_none}
 use Rattle.vk_image_transfer.proofs.Running.{row_writes}
-use Rattle.vk_image_transfer.proofs.Clears.{or_none, texel_some, product_some}
+use Rattle.vk_image_transfer.proofs.Clears.{or_none}
 use Rattle.vk_image_transfer.proofs.ImageRows.{RowThere, image_ran, row_read}
 use Rattle.vk_image_transfer.proofs.BufferRows.{buffer_read, buffer_ran}
+use Rattle.std.proofs.Math.Nat.{mul-pos}
 
 -- ---- how many pieces
 
 -- rows of some texels, cut one by one
 pub rows_counted : {X : Type 0} (m : ImageInfo) (layers height width : ℕ) (f : ℕ → ℕ → ℕ → ℕ → X) → rows_of width height layers ≡ length (cut (width * texel m.format) (grid layers height width (texel m.format) f))
 rows_counted m layers height zero f = sym (grid_none layers height zero (texel m.format) f refl)
-rows_counted m layers height (suc w) f = let some : eqb (suc w) 0 ≡ false = ne_eqb (suc w) 0 (λ e. omega arith) in rw some (sym (grid_count layers height (suc w) (texel m.format) f (product_some (suc w) (texel m.format) (omega arith) (texel_some m.format))))
+rows_counted m layers height (suc w) f = let some : eqb (suc w) 0 ≡ false = ne_eqb (suc w) 0 (λ e. omega arith) in rw some (sym (grid_count layers height (suc w) (texel m.format) f (mul-pos {m = suc w} (omega arith) (texel_some m.format))))
 
 -- ---- two resources
 
@@ -66,7 +67,7 @@ module _ (b i : ℕ) (m : ImageInfo) (g : BufferImageCopy) (number : ℕ) (wide 
   y = number % g.height
 
   some_bytes : 0 < g.width * texel m.format
-  some_bytes = product_some g.width (texel m.format) wide (texel_some m.format)
+  some_bytes = mul-pos wide (texel_some m.format)
 
   in_is : piece_in (copy_in_pieces b i m g) number ≡ row_writes g.width t (λ x p. image_texel i g z y x p) (λ x p. From (in_buffer b (buffer_texel g t z y x p)))
   in_is = ap (λ (o : Option (List ByteWrite)). or_none o)
@@ -143,7 +144,7 @@ module _ (s d : ℕ) (from m : ImageInfo) (g : ImageCopy) (number : ℕ) (wide :
   image_is = ap (λ (o : Option (List ByteWrite)). or_none o)
       (grid_piece g.layers g.height g.width (texel m.format)
       (λ z y x k. byte_write (in_image d g.destination_level (g.destination_first_layer + z) (g.destination_x + x) (g.destination_y + y) k) (From (in_image s g.source_level (g.source_first_layer + z) (g.source_x + x) (g.source_y + y) k)))
-      number (product_some g.width (texel m.format) wide (texel_some m.format)) here)
+      number (mul-pos wide (texel_some m.format)) here)
 
   -- of any resources that hold the two images
   pub copied_ran : TexelsApart → bad_image from ≡ false → bad_image m ≡ false → texel from.format ≡ texel m.format

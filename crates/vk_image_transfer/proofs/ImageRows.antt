@@ -10,8 +10,6 @@ use Rattle.vk_model.specs.World.ByteWrites.{Source}
 use Rattle.vk_transfer.specs.Ran.{given, HaveRun}
 use Rattle.vk_image_transfer.specs.Held.{Held, ImageOf, image_at, place_of, byte_held, bytes_held}
 use Rattle.vk_image_transfer.specs.Rows.{AreWritten, image_row}
-use Rattle.vk_image_transfer.specs.Inner.Lines.{line_place, line_texel, line_first, LineFits, LineApart}
-use Rattle.vk_image_transfer.specs.declared.lines.Line.{Line}
 use Rattle.vk_image_transfer.proofs.Running.{row_writes, held_ran}
 use Rattle.vk_image_transfer.proofs.Keeping.{RowInside}
 use Rattle.vk_image_transfer.proofs.Places.{IsThere, has, image_byte_at, image_apart, read_held}
@@ -50,19 +48,6 @@ module _ (m : ImageInfo) (good : bad_image m ≡ false) (start level layer first
       let is : one ≡ other = law m one other (has m good level layer (first + x) y p (texel_there x p lx lp)) (has m good level layer (first + u) y q (texel_there u q lu lq)) (omega (arith, same)) in
       let columns : first + x ≡ first + u = ap (λ (b : TexelByte). b.x) is in
       omega (arith, columns)
-
-  -- the line of the row
-  module _ (l : Line) (places : (x : ℕ) → line_place l x ≡ image_row m start level layer first y x) where
-    pub line_apart : TexelsApart → LineApart l w (texel m.format)
-    line_apart law x p u q lx lu lp lq same = row_apart law x p u q lx lu lp lq (ap (λ (k : ℕ). k + p) (sym (places x)) ∙ same ∙ ap (λ (k : ℕ). k + q) (places u))
-
-    pub line_fits : (size : ℕ) → line_texel l ≡ texel m.format → line_first l ≡ first → level_width m level < 4294967296 → ((x : ℕ) → first + x < level_width m level → line_place l x + texel m.format ≤ start + image_size m m.tiling) → start + image_size m m.tiling ≤ size
-        → LineFits l w (texel m.format) size
-    line_fits size bytes begins wide inside room = record {
-      texel = bytes;
-      numbers = omega (arith, begins, wide, row.columns);
-      inside = λ x lt. omega (arith, inside x (omega (arith, lt, row.columns)), room);
-    }
 
   -- what is read of the row
   pub row_read : (i : ℕ) (xs : List ℕ) (held : ℕ → Option Held) → held i ≡ Some (image_at xs start m) → (x p : ℕ) → x < w → p < texel m.format

@@ -7,24 +7,10 @@ use Rattle.vk_model.specs.Basics.{below}
 use Rattle.vk_model.specs.World.Bytes.{Byte, in_buffer, in_image, same_byte, resource_at}
 use Rattle.vk_model.specs.World.ByteWrites.{Source, ByteWrite, byte_write}
 use Rattle.vk_model.specs.Run.CachedRuns.{write_to}
-use Rattle.vk_model.proofs.World.BytePlaces.{buffer_same, image_same}
 use Rattle.vk_transfer.specs.Ran.{given, stored, HaveRun}
 use Rattle.vk_image_transfer.specs.Held.{Held, Form, place_of, byte_held, bytes_held}
 use Rattle.vk_image_transfer.specs.Rows.{AreWritten}
-
--- ---- bytes that are the same
-
-pub byte_same : (c d : Byte) → same_byte c d ≡ true → c ≡ d
-byte_same (in_buffer b k) (in_buffer c l) e = let s = buffer_same b k c l e in ap (λ (i : ℕ). in_buffer i k) s.0 ∙ ap (λ (i : ℕ). in_buffer c i) s.1
-byte_same (in_buffer b k) (in_image j c m u v q) e = absurd cc
-byte_same (in_image i a l x y p) (in_buffer c k) e = absurd cc
-byte_same (in_image i a l x y p) (in_image j c m u v q) e = let s = image_same i a l x y p j c m u v q e in
-    ap (λ (n : ℕ). in_image n a l x y p) s.image ∙ ap (λ (n : ℕ). in_image j n l x y p) s.level ∙ ap (λ (n : ℕ). in_image j c n x y p) s.layer
-    ∙ ap (λ (n : ℕ). in_image j c m n y p) s.x_is ∙ ap (λ (n : ℕ). in_image j c m u n p) s.y_is ∙ ap (λ (n : ℕ). in_image j c m u v n) s.part
-
-pub byte_is : (c : Byte) → same_byte c c ≡ true
-byte_is (in_buffer b k) = and_from _ _ (eq-eqb b b refl) (eq-eqb k k refl)
-byte_is (in_image i a l x y p) = and_from _ _ (and_from _ _ (and_from _ _ (and_from _ _ (and_from _ _ (eq-eqb i i refl) (eq-eqb a a refl)) (eq-eqb l l refl)) (eq-eqb x x refl)) (eq-eqb y y refl)) (eq-eqb p p refl)
+use Rattle.vk_model.proofs.World.BytePlaces.{byte_same, byte_itself}
 
 -- ---- what is found among what a function gives for numbers
 
@@ -110,7 +96,7 @@ module _ (d w t : ℕ) (h : Held) (changed : List ℕ) (held after : ℕ → Opt
           let there = at x p lt low in
           let same : there.0 ≡ k = omega (arith, is, there.2) in
           let one : to x p ≡ c = apart (to x p) c k (of_d x p) of_c (there.1 ∙ ap (λ (j : ℕ). Some j) same) e in
-          let is_it : same_byte (to x p) c ≡ true = ap (λ (b : Byte). same_byte (to x p) b) (sym one) ∙ byte_is (to x p) in
+          let is_it : same_byte (to x p) c ≡ true = ap (λ (b : Byte). same_byte (to x p) b) (sym one) ∙ byte_itself (to x p) in
           let not_it = none x p lt low in
           clash (same_byte (to x p) c) is_it not_it)
         where

@@ -164,10 +164,6 @@ module _ (t w : ℕ) (place from : ℕ → ℕ) (source old : List ℕ) (some : 
   pair_together f starts pairs k low (suc zero) few = let pair = pairs k low in omega (arith, pair.0, pair.1)
   pair_together f starts pairs k low (suc (suc j)) few = absurd (omega arith)
 
-  -- a pair ends in what holds its texels
-  pub pair_ends : (f : ℕ → ℕ) (starts : List ℕ) (size : ℕ) → ArePairs f t n starts → ((x : ℕ) → x < w → f x + t ≤ size) → (k : ℕ) → k < 4 → slice_index starts k + 2 * t ≤ size
-  pair_ends f starts size pairs inside k low = let pair = pairs k low in let last = inside (n + 2 * k + 1) (omega arith) in omega (arith, pair.1, last)
-
   pair_moved : ArePairs place t n writes → ArePairs from t n reads → (mid : List ℕ) (k : ℕ) → k < 4 → AreWritten old mid (n + 2 * k) t place (λ x p. slice_index source (from x + p))
       → AreWritten old (pair_copied source reads writes (2 * t) k mid) (n + 2 * k + 2) t place (λ x p. slice_index source (from x + p))
   pair_moved to of mid k low so_far =

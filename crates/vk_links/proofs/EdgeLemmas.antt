@@ -12,10 +12,7 @@ use Rattle.vk_model.proofs.Sync.Paths.{before_of_path}
 use Rattle.vk_order.specs.Lines.{is_of_sets, line_of, class_of}
 use Rattle.vk_order.specs.Edges.{unsignaled}
 use Rattle.vk_order.proofs.AvailabilityLemmas.{lined}
-
-or-false : (b : Bool) → (b || false) ≡ b
-or-false true = refl
-or-false false = refl
+use Rattle.std.proofs.Math.Bool.{or-false}
 
 -- a command signals nothing
 pub edge_from_command : (ns : List Node) (w p : Node) (c : Cmd) → w.act ≡ Runs c → edge ns w p ≡ (nat_lt w.number p.number && unsignaled w p)

@@ -72,9 +72,6 @@ module _ (past : Past) (w a : Node) (k : Access) (b : Byte) (cw : Contains (node
   some_any : (test : Node → Bool) → HasSome past test → any test ≡ true
   some_any test some = member_passes test all some.0 some.1 some.2
 
-  any_some : (test : Node → Bool) → any test ≡ true → HasSome past test
-  any_some test h = some_member test all h
-
   -- a write that needs a flush isn't available without one
   asked_of : (act : Act) → is_host act ≡ true → (p : Node) → available_by (cached past) all w act b p ≡ true → is_asked past w cw b p ≡ true
   asked_of (Hosts x) h p e =

@@ -1,5 +1,5 @@
 -- The point that a trace is refused at, and what is reported of it.
-use Rattle.std.proofs.Common.{◌≡◌, ◌∷◌, List, Some, None, true, Option, sym, ap, ◌∙◌, subst, ◌&&◌}
+use Rattle.std.proofs.Common.{◌≡◌, ◌∷◌, List, Some, true, Option, sym, ap, ◌∙◌, subst, ◌&&◌}
 use Rattle.std.specs.Prelude.{Contains, MatchOption}
 use Rattle.std.proofs.lemmas.Bool.{and_parts}
 use Rattle.vk_model.specs.declared.entry.Entry.{Entry}
@@ -68,6 +68,3 @@ until_links t at f past l until are = record {
 
 pub until_some : (t : List Entry) (at : At) (found : Option Past) (past : Past) → found ≡ Some past → MatchOption found (IsNowhere (order t) at) (IsUntil (order t) at) → IsUntil (order t) at past
 until_some t at found past is of = subst (λ (o : Option Past). MatchOption o (IsNowhere (order t) at) (IsUntil (order t) at)) is of
-
-pub reported_somewhere : (t : List Entry) (at : At) (r : Rule) (f : HazardFact) (found : Option Past) → found ≡ None → IsReportedOf t at r (Some (fact.Hazard f)) → MatchOption found (IsNowhere (order t) at) (IsUntil (order t) at) → ⊥
-reported_somewhere t at r f found is reported of = (subst (λ (o : Option Past). MatchOption o (IsNowhere (order t) at) (IsUntil (order t) at)) is of) reported.before reported.point reported.comes reported.is_reported

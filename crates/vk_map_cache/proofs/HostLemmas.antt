@@ -4,7 +4,7 @@ use Rattle.std.proofs.lemmas.Bool.{cases_lt, and_left, and_right, lt-ltb, le-ltb
 use Rattle.std.proofs.lemmas.List.{get_or-set_same, get_or_past, get_or_read}
 use Rattle.vk_model.specs.declared.command.Length.TheVariants as length_of
 use Rattle.vk_model.specs.World.Effect.{in_atoms}
-use Rattle.vk_model.specs.Run.Caches.{Held, Cell, written_back, written_back_if, dropped, dropped_if, loaded, loaded_if, forgotten}
+use Rattle.vk_model.specs.Run.Caches.{Held, Cell, loaded, loaded_if, forgotten}
 use Rattle.vk_map_cache.specs.Holdings.{Holdings, held_in, held_at, IsCell, Changes, HoldsSame, only_where}
 use Rattle.vk_map_cache.proofs.CellLemmas.{same_cell}
 use Rattle.vk_map_cache.proofs.HoldingLemmas.{in_range_or}
@@ -106,14 +106,6 @@ all_forgotten offset size memory old new changes start all k = elim (cases_lt k 
 ]
 
 -- ---- changes that leave something alone
-
--- what isn't held isn't written back
-pub unheld-written_back : (cell : Cell) → cell.held 0 ≡ None → written_back 0 cell ≡ cell
-unheld-written_back cell unheld = ap (λ (h : Option Held). written_back_if 0 h cell) unheld
-
--- nor dropped
-pub unheld-evicted : (cell : Cell) → cell.held 0 ≡ None → dropped 0 (written_back 0 cell) ≡ cell
-unheld-evicted cell unheld = ap (λ (c : Cell). dropped 0 c) (unheld-written_back cell unheld) ∙ ap (λ (h : Option Held). dropped_if 0 h cell) unheld
 
 -- what is loaded stays in memory
 pub region-loaded : (cell : Cell) → (loaded 0 cell).region ≡ cell.region

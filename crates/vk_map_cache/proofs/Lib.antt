@@ -1,4 +1,3 @@
-pub mod HostBytes
 pub mod CellLemmas
 pub mod HoldingLemmas
 pub mod SpanLemmas

@@ -4,3 +4,5 @@ pub mod Pairs
 pub mod Grids
 pub mod Rows
 pub mod Failing
+pub mod Items
+pub mod Keys

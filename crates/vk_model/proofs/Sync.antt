@@ -3,3 +3,4 @@ pub mod Paths
 pub mod Growth
 pub mod NewNodes
 pub mod HostActs
+pub mod EdgeKinds

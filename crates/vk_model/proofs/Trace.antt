@@ -1,4 +1,3 @@
-pub mod PlainOrder
 pub mod Orders
 pub mod Growing
 pub mod Structure

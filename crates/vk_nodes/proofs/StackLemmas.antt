@@ -99,10 +99,6 @@ pub moved : {names names' : List ℕ} {free free' : ℕ} {slots slots' : List (O
 moved {names' = names'} {free = free} {free' = free'} {slots = slots} e e' e'' s =
     subst (λ (xs : List (Option Node)). IsFreeStack names' free' xs) e'' (subst (λ (n : ℕ). IsFreeStack names' n slots) e' (subst (λ (ns : List ℕ). IsFreeStack ns free slots) e s))
 
--- nothing is on the stack of no slots
-pub no-stack : (names : List ℕ) → IsFreeStack names 0 []
-no-stack names = record { count = refl; inside = λ i lt. omega (arith, lt); is_free = λ i lt. absurd (omega (arith, lt)); apart = λ i j l lt. absurd (omega (arith, lt)) }
-
 get_or-none : (m k : ℕ) → get_or (replicate {A = Option Node} m None) k None ≡ None
 get_or-none zero k = refl
 get_or-none (suc m) zero = refl
@@ -112,12 +108,6 @@ held-used : (xs : List (Option Node)) (m k : ℕ) → IsHeld (xs ++ replicate m 
 held-used [] m k h = absurd (none-held (get_or (replicate m None) k None) (get_or-none m k) h)
 held-used (x ∷ xs) m zero h = h
 held-used (x ∷ xs) m (suc k) h = held-used xs m k h
-
-held-taken : (used : ℕ) (nodes : List (Option Node)) (k : ℕ) → IsHeld (take used nodes) k → IsHeld nodes k
-held-taken zero nodes k h = absurd (not-held h)
-held-taken (suc used) [] k h = absurd (not-held h)
-held-taken (suc used) (x ∷ nodes) zero h = h
-held-taken (suc used) (x ∷ nodes) (suc k) h = held-taken used nodes k h
 
 unused-free : (xs : List (Option Node)) (m : ℕ) → get_or (xs ++ replicate m None) (length xs) None ≡ None
 unused-free [] m = get_or-none m 0
@@ -165,9 +155,6 @@ module _ (used slots : ℕ) (nodes : List (Option Node)) (le : used ≤ length n
 
   pub seen-below : (k : ℕ) → IsHeld (slots_seen used slots nodes) k → k < used
   seen-below k h = omega (arith, held-below (take used nodes) k (seen-held k h), length-taken)
-
-  pub seen-in : (k : ℕ) → IsHeld (slots_seen used slots nodes) k → IsHeld nodes k
-  seen-in k h = held-taken used nodes k (seen-held k h)
 
   pub seen-get : (k : ℕ) → k < used → get_or (slots_seen used slots nodes) k None ≡ get_or nodes k None
   seen-get k lt = get_or-seen used nodes (replicate (slots - used) None) k lt le

@@ -1,5 +1,5 @@
 -- The clears and copies among nodes, as points come.
-use Rattle.std.proofs.Common.{◌≡◌, ◌⊎◌, inl, inr, ℕ, zero, suc, ◌+◌, ◌<◌, ◌≤◌, List, [], ◌∷◌, ◌++◌, reverse, length, take, Bool, true, false, ◌&&◌, eqb, IsTrue, refl, ap, sym, ◌∙◌, subst, arith, Some}
+use Rattle.std.proofs.Common.{◌≡◌, inl, inr, ℕ, zero, suc, ◌+◌, ◌<◌, ◌≤◌, List, [], ◌∷◌, ◌++◌, reverse, length, take, Bool, true, false, ◌&&◌, eqb, IsTrue, refl, ap, sym, ◌∙◌, subst, arith, Some}
 use Rattle.std.proofs.lemmas.Bool.{eqb-true, eqb-false, lt-leb, le-leb}
 use Rattle.std.proofs.lemmas.Grind.{common_steps}
 use Rattle.std.proofs.lemmas.List.{append-nil}
@@ -18,6 +18,7 @@ use Rattle.vk_order.specs.declared.lines.Line.TheVariants.{Commands as OfCommand
 use Rattle.vk_order.specs.Lines.{place, on_line}
 use Rattle.vk_order.proofs.PlaceLemmas.{place-top}
 use Rattle.vk_offers.specs.IsOffers.{commands_in}
+use Rattle.vk_model.proofs.Lists.Items.{get_before, push_new, push_cases}
 
 reversed : (n : Node) (ns : List Node) → reverse (n ∷ ns) ≡ reverse ns ++ n ∷ []
 reversed n ns = grind (arith, common_steps)
@@ -39,22 +40,6 @@ command_node n ns e = node_more n ns true e
 
 -- ---- a list with one item more
 
-pub get_before : {X : Type 0} (xs ys : List X) (j : ℕ) → j < length xs → slice_get (xs ++ ys) j ≡ slice_get xs j
-get_before [] ys j lt = absurd (omega arith)
-get_before (x ∷ xs) ys zero lt = refl
-get_before (x ∷ xs) ys (suc j) lt = get_before xs ys j (omega arith)
-
-pub get_last : {X : Type 0} (xs : List X) (y : X) → slice_get (xs ++ y ∷ []) (length xs) ≡ Some y
-get_last [] y = refl
-get_last (x ∷ xs) y = get_last xs y
-
--- an item of the longer list is one of the shorter, or the last
-pub get_more : {X : Type 0} (xs : List X) (y : X) (j : ℕ) (z : X) → slice_get (xs ++ y ∷ []) j ≡ Some z → ((j < length xs) × (slice_get xs j ≡ Some z)) ⊎ ((j ≡ length xs) × (y ≡ z))
-get_more [] y zero z e = inr (refl, cc)
-get_more [] y (suc j) z e = absurd cc
-get_more (x ∷ xs) y zero z e = inl (omega arith, e)
-get_more (x ∷ xs) y (suc j) z e = elim (get_more xs y j z e) [ inl h ↦ (let lt = h.0 in inl (omega arith, h.1)) | inr h ↦ inr (ap suc h.0, h.1) ]
-
 take_before : {X : Type 0} (xs ys : List X) (j : ℕ) → j ≤ length xs → take j (xs ++ ys) ≡ take j xs
 take_before xs ys zero le = refl
 take_before [] ys (suc j) le = absurd (omega arith)
@@ -72,8 +57,8 @@ command_at (m ∷ ns) j n e = go (is_command m.act) refl (command_at ns j n)
   where
     go : (t : Bool) → is_command m.act ≡ t → (slice_get (commands_in ns) j ≡ Some n → Contains ns n × IsTrue (is_command n.act)) → Contains (m ∷ ns) n × IsTrue (is_command n.act)
     go false is rest = let h = rest (subst (λ (ms : List Node). slice_get ms j ≡ Some n) (other_node m ns is) e) in (contains-tail m ns n h.0, h.1)
-    go true is rest = elim (get_more (commands_in ns) m j n (subst (λ (ms : List Node). slice_get ms j ≡ Some n) (command_node m ns is) e)) [
-      | inl old ↦ (let h = rest old.1 in (contains-tail m ns n h.0, h.1))
+    go true is rest = elim (push_cases (commands_in ns) m n j (subst (λ (ms : List Node). slice_get ms j ≡ Some n) (command_node m ns is) e)) [
+      | inl old ↦ (let h = rest old in (contains-tail m ns n h.0, h.1))
       | inr new ↦ (subst (λ (k : Node). Contains (m ∷ ns) k) new.1 (contains-head m ns), subst (λ (k : Node). IsTrue (is_command k.act)) new.1 is)
     ]
 
@@ -81,7 +66,7 @@ command_at (m ∷ ns) j n e = go (is_command m.act) refl (command_at ns j n)
 pub has_place : (ns : List Node) (n : Node) → Contains ns n → IsTrue (is_command n.act) → (j : ℕ) × (slice_get (commands_in ns) j ≡ Some n)
 has_place [] n c is = absurd (none_in n c)
 has_place (m ∷ ns) n c is = elim (contains-cons m ns n c) [
-  | inl same ↦ (length (commands_in ns), rw (command_node m ns (subst (λ (k : Node). is_command k.act ≡ true) (sym same) is)) (get_last (commands_in ns) m ∙ ap (λ (k : Node). Some k) same))
+  | inl same ↦ (length (commands_in ns), rw (command_node m ns (subst (λ (k : Node). is_command k.act ≡ true) (sym same) is)) (push_new (commands_in ns) m ∙ ap (λ (k : Node). Some k) same))
   | inr old ↦ (let h = has_place ns n old is in (h.0, go h.0 h.1 (is_command m.act) refl))
 ]
   where
@@ -169,9 +154,9 @@ before_on (m ∷ ns) numbers q j n e = go (is_command m.act) refl (before_on ns 
         let there = subst (λ (ms : List Node). slice_get ms j ≡ Some n) (other_node m ns is) e in
         let low = number_below ns numbers.1 n (command_at ns j n there).0 in
         place_kept m ns (OfCommands q) n.number (omega (arith, number)) ∙ rest there ∙ ap (λ (os : List Node). count_by (on_queue q) (take j os)) (sym (other_node m ns is))
-    go true is rest = elim (get_more (commands_in ns) m j n (subst (λ (ms : List Node). slice_get ms j ≡ Some n) (command_node m ns is) e)) [
-      | inl old ↦ (let low = number_below ns numbers.1 n (command_at ns j n old.1).0 in let lt = old.0 in
-          place_kept m ns (OfCommands q) n.number (omega (arith, number)) ∙ rest old.1 ∙ ap (λ (os : List Node). count_by (on_queue q) os) (sym (take_before (commands_in ns) (m ∷ []) j (omega arith)))
+    go true is rest = elim (push_cases (commands_in ns) m n j (subst (λ (ms : List Node). slice_get ms j ≡ Some n) (command_node m ns is) e)) [
+      | inl old ↦ (let low = number_below ns numbers.1 n (command_at ns j n old).0 in let lt = slice_get_within (commands_in ns) j n old in
+          place_kept m ns (OfCommands q) n.number (omega (arith, number)) ∙ rest old ∙ ap (λ (os : List Node). count_by (on_queue q) os) (sym (take_before (commands_in ns) (m ∷ []) j (omega arith)))
           ∙ ap (λ (os : List Node). count_by (on_queue q) (take j os)) (sym (command_node m ns is)))
       | inr new ↦ (let own : m.number ≡ n.number = ap (λ (k : Node). k.number) new.1 in
           place_kept m ns (OfCommands q) n.number (omega arith) ∙ ap (λ (k : ℕ). place ns (OfCommands q) k) (sym own ∙ number) ∙ all_on ns numbers.1 q

@@ -1,5 +1,5 @@
 -- The commands that were started, when a piece has run.
-use Rattle.std.proofs.Common.{◌≡◌, inl, inr, ℕ, zero, suc, ◌<◌, List, [], ◌∷◌, length, Bool, true, false, not, ◌||◌, eqb, eq-eqb, refl, ap, sym, ◌∙◌, subst, arith, length-set, Some}
+use Rattle.std.proofs.Common.{◌≡◌, inl, inr, ℕ, zero, suc, ◌<◌, List, [], ◌∷◌, length, Bool, true, false, not, eqb, eq-eqb, refl, ap, sym, ◌∙◌, subst, arith, length-set, Some}
 use Rattle.std.proofs.lemmas.Bool.{eqb-true, eqb-false}
 use Rattle.std.proofs.lemmas.Option.{slice_get_within}
 use Rattle.std.specs.Prelude.{slice_get, slice_set, ◌==◌}
@@ -9,14 +9,14 @@ use Rattle.vk_model.specs.Trace.Point.{Past}
 use Rattle.vk_model.specs.Sync.Node.{Node, nodes}
 use Rattle.vk_model.specs.Sync.Edge.{is_command}
 use Rattle.vk_model.specs.Sync.Before.{IsNumbered}
-use Rattle.vk_model.specs.Run.Runs.{Name, same_name, is_done}
+use Rattle.vk_model.specs.Run.Runs.{Name, is_done}
 use Rattle.vk_model.proofs.Sync.Numbers.{number_below, numbered}
 use Rattle.vk_sync.specs.declared.board.Command.{Command}
 use Rattle.vk_sync.specs.declared.ready.Piece.{Piece}
 use Rattle.vk_sync.specs.Ready.{without, after_piece}
 use Rattle.vk_offers.specs.IsOffers.{commands_in, name_of, piece_count, IsStarted, AreStarted}
-use Rattle.vk_offers.proofs.Commands.{command_at, other_node, command_node, get_more}
-use Rattle.vk_offers.proofs.Growing.{get_some}
+use Rattle.vk_offers.proofs.Commands.{command_at, other_node, command_node}
+use Rattle.vk_model.proofs.Lists.Items.{push_cases, item_at}
 
 -- commands of one number have one place
 pub one_place : (ns : List Node) → IsNumbered ns → (i j : ℕ) (a b : Node) → slice_get (commands_in ns) i ≡ Some a → slice_get (commands_in ns) j ≡ Some b → a.number ≡ b.number → i ≡ j
@@ -28,21 +28,18 @@ one_place (n ∷ ns) numbers i j a b at_a at_b same = go (is_command n.act) refl
 
     go : (t : Bool) → is_command n.act ≡ t → (slice_get (commands_in ns) i ≡ Some a → slice_get (commands_in ns) j ≡ Some b → a.number ≡ b.number → i ≡ j) → i ≡ j
     go false e rest = rest (subst (λ (ms : List Node). slice_get ms i ≡ Some a) (other_node n ns e) at_a) (subst (λ (ms : List Node). slice_get ms j ≡ Some b) (other_node n ns e) at_b) same
-    go true e rest = elim (get_more (commands_in ns) n i a (subst (λ (ms : List Node). slice_get ms i ≡ Some a) (command_node n ns e) at_a)) [
-      | inl old ↦ elim (get_more (commands_in ns) n j b (subst (λ (ms : List Node). slice_get ms j ≡ Some b) (command_node n ns e) at_b)) [
-        | inl old' ↦ rest old.1 old'.1 same
-        | inr new' ↦ (let low = number_below ns numbers.1 a (command_at ns i a old.1).0 in let own : n.number ≡ b.number = ap (λ (m : Node). m.number) new'.1 in absurd (omega (arith, low, own, number, same)))
+    go true e rest = elim (push_cases (commands_in ns) n a i (subst (λ (ms : List Node). slice_get ms i ≡ Some a) (command_node n ns e) at_a)) [
+      | inl old ↦ elim (push_cases (commands_in ns) n b j (subst (λ (ms : List Node). slice_get ms j ≡ Some b) (command_node n ns e) at_b)) [
+        | inl old' ↦ rest old old' same
+        | inr new' ↦ (let low = number_below ns numbers.1 a (command_at ns i a old).0 in let own : n.number ≡ b.number = ap (λ (m : Node). m.number) new'.1 in absurd (omega (arith, low, own, number, same)))
       ]
-      | inr new ↦ elim (get_more (commands_in ns) n j b (subst (λ (ms : List Node). slice_get ms j ≡ Some b) (command_node n ns e) at_b)) [
-        | inl old' ↦ (let low = number_below ns numbers.1 b (command_at ns j b old'.1).0 in let own : n.number ≡ a.number = ap (λ (m : Node). m.number) new.1 in absurd (omega (arith, low, own, number, same)))
+      | inr new ↦ elim (push_cases (commands_in ns) n b j (subst (λ (ms : List Node). slice_get ms j ≡ Some b) (command_node n ns e) at_b)) [
+        | inl old' ↦ (let low = number_below ns numbers.1 b (command_at ns j b old').0 in let own : n.number ≡ a.number = ap (λ (m : Node). m.number) new.1 in absurd (omega (arith, low, own, number, same)))
         | inr new' ↦ new.0 ∙ sym new'.0
       ]
     ]
 
 -- ---- what is left then
-
-done_now : (x : Name) (done : List Name) (y : Name) → is_done (x ∷ done) y ≡ (same_name y x || is_done done y)
-done_now x done y = refl
 
 -- of another command
 other_left : (n index number : ℕ) (done : List Name) (ks : List ℕ) → eqb n number ≡ false → filter (λ k. not (is_done done (n, k))) ks ≡ filter (λ k. not (is_done ((number, index) ∷ done) (n, k))) ks
@@ -111,6 +108,6 @@ module _ (past : Past) (done : List Name) (cs : List Command) (started : AreStar
   pub piece_finished : piece.command < length cs → AreStarted past (name_of past piece ∷ done) (commands_in (nodes past)) (after_piece piece cs)
   piece_finished here =
       let size = started.lengths in
-      let c = get_some cs piece.command here in
-      let n = get_some (commands_in (nodes past)) piece.command (omega (arith, here, size)) in
+      let c = item_at cs piece.command here in
+      let n = item_at (commands_in (nodes past)) piece.command (omega (arith, here, size)) in
       rw (after_piece, name_of, c.1, n.1) (finished_at n.0 c.0 n.1 c.1)

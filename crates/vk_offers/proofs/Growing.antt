@@ -1,5 +1,5 @@
 -- The commands that were started, as points come.
-use Rattle.std.proofs.Common.{◌≡◌, inl, inr, ℕ, zero, suc, ◌+◌, ◌<◌, ◌≤◌, List, [], ◌∷◌, ◌++◌, map, length, Bool, true, false, not, ◌&&◌, IsTrue, refl, ap, sym, ◌∙◌, subst, arith, Some}
+use Rattle.std.proofs.Common.{◌≡◌, inl, inr, ℕ, suc, ◌+◌, ◌<◌, ◌≤◌, List, [], ◌∷◌, ◌++◌, map, length, Bool, true, false, not, ◌&&◌, IsTrue, refl, ap, sym, ◌∙◌, subst, arith, Some}
 use Rattle.std.proofs.lemmas.Bool.{eqb-true, le-ltb, lt-ltb, ltb-true, ltb-false}
 use Rattle.std.proofs.lemmas.List.{length-append, take_all}
 use Rattle.std.proofs.lemmas.Option.{slice_get_within}
@@ -26,8 +26,9 @@ use Rattle.vk_sync.specs.declared.board.Command.{Command}
 use Rattle.vk_sync.specs.Ready.{count_on, MayCome}
 use Rattle.vk_offers.specs.IsOffers.{commands_in, piece_count, CountsBefore, is_run, PiecesStay, IsStarted, AreStarted}
 use Rattle.vk_offers.specs.IsOffers.{is_run_in_pieces}
-use Rattle.vk_offers.proofs.Commands.{on_queue, command_at, all_on, of_line, place_kept, place_next, other_node, command_node, get_before, get_last, get_more}
+use Rattle.vk_offers.proofs.Commands.{on_queue, command_at, all_on, of_line, place_kept, place_next, other_node, command_node}
 use Rattle.vk_offers.proofs.Offering.{command_line, same_count}
+use Rattle.vk_model.proofs.Lists.Items.{get_before, push_new, push_cases, item_at}
 
 -- ---- the acts of a point
 
@@ -192,11 +193,6 @@ at_place (n ∷ ns) numbers q r lt = go (nat_lt r (place ns (OfCommands q) (leng
         let all = total false (of_line q n ∙ ap (λ (b : Bool). b && on_queue q n) f) in
         absurd (omega (arith, lt, least, all))
 
-pub get_some : {X : Type 0} (xs : List X) (j : ℕ) → j < length xs → (x : X) × (slice_get xs j ≡ Some x)
-get_some [] j lt = absurd (omega arith)
-get_some (x ∷ xs) zero lt = (x, refl)
-get_some (x ∷ xs) (suc j) lt = get_some xs j (omega arith)
-
 -- how many commands of a queue there are
 pub all_there : (past : Past) (done : List Name) (cs : List Command) → AreStarted past done (commands_in (nodes past)) cs → (q : ℕ) → place (nodes past) (OfCommands q) (length (nodes past)) ≡ count_on q cs
 all_there past done cs started q =
@@ -228,10 +224,10 @@ module _ (keeps : GrowthKeeps) (leads : BeforeLeadsOn) (past : Past) (p : Point)
       grown = ap commands_in (with_next keeps leads past p c is run) ∙ command_node n (nodes past) refl
 
       each : (j : ℕ) (m : Node) (d : Command) → slice_get (commands_in (nodes past) ++ n ∷ []) j ≡ Some m → slice_get (cs ++ new ∷ []) j ≡ Some d → IsStarted (p ∷ past) done m d
-      each j m d at_m at_d = elim (get_more (commands_in (nodes past)) n j m at_m) [
-        | inl old ↦ (let lt = old.0 in let same = started.lengths in
-            started_stays keeps leads past p done m d (command_at (nodes past) j m old.1).0 stay (started.each j m d old.1 (sym (get_before cs (new ∷ []) j (omega arith)) ∙ at_d)))
-        | inr last ↦ (let same : Some new ≡ Some d = sym (get_last cs new) ∙ ap (λ (k : ℕ). slice_get (cs ++ new ∷ []) k) (started.lengths ∙ sym last.0) ∙ at_d in
+      each j m d at_m at_d = elim (push_cases (commands_in (nodes past)) n m j at_m) [
+        | inl old ↦ (let lt = slice_get_within (commands_in (nodes past)) j m old in let same = started.lengths in
+            started_stays keeps leads past p done m d (command_at (nodes past) j m old).0 stay (started.each j m d old (sym (get_before cs (new ∷ []) j (omega arith)) ∙ at_d)))
+        | inr last ↦ (let same : Some new ≡ Some d = sym (push_new cs new) ∙ ap (λ (k : ℕ). slice_get (cs ++ new ∷ []) k) (started.lengths ∙ sym last.0) ∙ at_d in
             let this : new ≡ d = cc in
             subst (λ (k : Node). IsStarted (p ∷ past) done k d) last.1 (subst (λ (e : Command). IsStarted (p ∷ past) done n e) this here))
       ]
@@ -256,7 +252,7 @@ module _ (keeps : GrowthKeeps) (leads : BeforeLeadsOn) (past : Past) (p : Point)
       rising j d at_d same q small =
           let lt = slice_get_within cs j d at_d in
           let size = started.lengths in
-          let found = get_some (commands_in (nodes past)) j (omega (arith, lt, size)) in
+          let found = item_at (commands_in (nodes past)) j (omega (arith, lt, size)) in
           let here = started.each j found.0 d found.1 at_d in
           let there = command_at (nodes past) j found.0 found.1 in
           go found.0 here there.0 there.1 (nat_lt (slice_index counts q) (slice_index d.before q)) refl

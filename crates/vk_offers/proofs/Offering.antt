@@ -1,7 +1,6 @@
 -- What is ready of the commands that were started is what is offered.
 use Rattle.std.proofs.Common.{◌≡◌, ℕ, zero, suc, ◌+◌, ◌<◌, List, [], ◌∷◌, ◌++◌, map, reverse, length, take, Bool, true, false, not, ◌&&◌, ◌||◌, eqb, IsTrue, refl, ap, sym, ◌∙◌, subst, arith, Some}
 use Rattle.std.proofs.lemmas.Bool.{eqb-true}
-use Rattle.std.proofs.lemmas.List.{map-append}
 use Rattle.std.proofs.lemmas.Simd.{map-map}
 use Rattle.std.proofs.lemmas.List.Sums.{sum_by-cons}
 use Rattle.std.proofs.lemmas.List.Folds.{list_all-append}
@@ -20,6 +19,8 @@ use Rattle.vk_sync.specs.declared.board.Command.{Command}
 use Rattle.vk_sync.specs.Ready.{count_on, is_among, is_met, pieces_of, ready}
 use Rattle.vk_offers.specs.IsOffers.{commands_in, piece_count, number_of, name_of, AreStarted}
 use Rattle.vk_offers.proofs.Commands.{on_queue, command_at, before_on, other_node, command_node}
+use Rattle.vk_model.proofs.Lists.Items.{map_flat}
+use Rattle.std.proofs.Math.Bool.{or-true}
 
 -- ---- lists
 
@@ -65,10 +66,6 @@ flat_chosen {X} {A} p f (x ∷ xs) none = go (p x) refl (flat_chosen p f xs none
     go true e rest = ap (λ (zs : List A). f x ++ zs) rest
     go false e rest = ap (λ (zs : List A). zs ++ flat_map f xs) (none x e) ∙ rest
 
-map_flat : {X A B : Type 0} (h : A → B) (g : X → List A) (xs : List X) → map h (flat_map g xs) ≡ flat_map (λ x. map h (g x)) xs
-map_flat h g [] = refl
-map_flat {X} {A} {B} h g (x ∷ xs) = map-append h (g x) (flat_map g xs) ∙ ap (λ (zs : List B). map h (g x) ++ zs) (map_flat h g xs)
-
 chosen_mapped : {X Y : Type 0} (p : Y → Bool) (h : X → Y) (xs : List X) → filter p (map h xs) ≡ map h (filter (λ x. p (h x)) xs)
 chosen_mapped p h [] = refl
 chosen_mapped {X} {Y} p h (x ∷ xs) = go (p (h x)) (chosen_mapped p h xs)
@@ -111,10 +108,6 @@ all_commands f (n ∷ ns) others = go (is_command n.act) refl (all_commands f ns
 
 -- ---- a command's pieces
 
-or_true : (a : Bool) → (a || true) ≡ true
-or_true true = refl
-or_true false = refl
-
 no_pieces : (past : Past) (n : Node) (a : Act) → is_command a ≡ false → node_pieces past n a ≡ []
 no_pieces past n (Hosts x) e = refl
 no_pieces past n (Waits s) e = refl
@@ -156,7 +149,7 @@ module _ (past : Past) (done : List Name) (cs : List Command) (started : AreStar
       → list_all (λ m. not (test m) || list_all (is_done done) (node_pieces past m m.act)) (nodes past) ≡ is_met counts cs
   met test counts first =
       all_commands (λ m. not (test m) || list_all (is_done done) (node_pieces past m m.act)) (nodes past)
-      (λ n e. ap (λ (xs : List Name). not (test n) || list_all (is_done done) xs) (no_pieces past n n.act e) ∙ or_true (not (test n)))
+      (λ n e. ap (λ (xs : List Name). not (test n) || list_all (is_done done) xs) (no_pieces past n n.act e) ∙ or-true (not (test n)))
       ∙ all_alike (λ m. not (test m) || list_all (is_done done) (node_pieces past m m.act)) (λ x. not (is_among counts cs x.0 x.1) || length x.1.left == 0) 0 (commands_in (nodes past)) cs started.lengths each
     where
       each : (j : ℕ) (m : Node) (c : Command) → slice_get (commands_in (nodes past)) j ≡ Some m → slice_get cs j ≡ Some c

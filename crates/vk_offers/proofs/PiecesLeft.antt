@@ -18,9 +18,9 @@ use Rattle.vk_sync.specs.declared.ready.Piece.{Piece}
 use Rattle.vk_sync.specs.Ready.{ready}
 use Rattle.vk_offers.specs.IsOffers.{commands_in, piece_count, number_of, name_of, IsStarted, AreStarted}
 use Rattle.vk_offers.proofs.Commands.{other_node, command_node}
-use Rattle.vk_offers.proofs.Growing.{get_some}
 use Rattle.vk_offers.proofs.Offering.{same_offers}
 use Rattle.vk_offers.proofs.Steps.{ready_has}
+use Rattle.vk_model.proofs.Lists.Items.{item_at}
 
 -- ---- sums
 
@@ -156,8 +156,8 @@ module _ (past : Past) (done : List Name) (piece : Piece) where
       let low = slice_get_within cs piece.command has.0 has.1 in
       let size = started.lengths in
       let sizes = after.lengths in
-      let n = get_some (commands_in (nodes past)) piece.command (omega (arith, low, size)) in
-      let new = get_some later piece.command (omega (arith, low, size, sizes)) in
+      let n = item_at (commands_in (nodes past)) piece.command (omega (arith, low, size)) in
+      let new = item_at later piece.command (omega (arith, low, size, sizes)) in
       let old_left = (started.each piece.command n.0 has.0 n.1 has.1).left in
       let new_left = (after.each piece.command n.0 new.0 n.1 new.1).left in
       let number : n.0.number ≡ (name_of past piece).0 = sym (ap number_of n.1) in
@@ -173,7 +173,7 @@ module _ (past : Past) (done : List Name) (piece : Piece) where
       each j d c at_d at_c =
           let low = slice_get_within cs j c at_c in
           let size = started.lengths in
-          let n = get_some (commands_in (nodes past)) j (omega (arith, low, size)) in
+          let n = item_at (commands_in (nodes past)) j (omega (arith, low, size)) in
           let old_left = (started.each j n.0 c n.1 at_c).left in
           let new_left = (after.each j n.0 d n.1 at_d).left in
           let fewer = fewer_kept (λ k. not (is_done ran (n.0.number, k))) (λ k. not (is_done done (n.0.number, k))) (still n.0.number) (below (piece_count past n.0.act)) in

@@ -27,8 +27,9 @@ use Rattle.vk_offers.specs.Inner.Starting.{MayStart}
 use Rattle.vk_offers.specs.IsOffers.{is_run_in_pieces}
 use Rattle.vk_offers.proofs.Commands.{command_at, place_kept, command_node}
 use Rattle.vk_offers.proofs.Offering.{met}
-use Rattle.vk_offers.proofs.Growing.{get_some, others_stay, none_run, with_next, next_started, others_started, more_started, may_come, is_false, all_there}
+use Rattle.vk_offers.proofs.Growing.{others_stay, none_run, with_next, next_started, others_started, more_started, may_come, is_false, all_there}
 use Rattle.vk_offers.proofs.Finishing.{piece_finished}
+use Rattle.vk_model.proofs.Lists.Items.{get_mapped, item_at}
 
 -- ---- a new node's counts
 
@@ -91,11 +92,6 @@ module _ (keeps : GrowthKeeps) (leads : BeforeLeadsOn) (old : Offers) (past : Pa
 
 -- ---- what is ready
 
-pub get_mapped : {X Y : Type 0} (f : X → Y) (xs : List X) (j : ℕ) (x : X) → slice_get xs j ≡ Some x → slice_get (map f xs) j ≡ Some (f x)
-get_mapped f [] j x e = absurd cc
-get_mapped f (y ∷ xs) zero x e = let same : y ≡ x = cc in ap (λ z. Some (f z)) same
-get_mapped f (y ∷ xs) (suc j) x e = get_mapped f xs j x e
-
 enumerated : {X : Type 0} (k : ℕ) (xs : List X) (x : ℕ × X) → Contains (enumerate_from k xs) x → (j : ℕ) × (x.0 ≡ k + j) × (slice_get xs j ≡ Some x.1)
 enumerated k [] x c = absurd (none_in x c)
 enumerated {X} k (y ∷ ys) x c = elim (contains-cons (k, y) (enumerate_from (k + 1) ys) x c) [
@@ -124,7 +120,7 @@ module _ (o : Offers) (past : Past) (done : List Name) (is : IsOffers o past don
 
   below_all : (piece : Piece) → piece.command < length (commands_in (nodes past)) → (x : Name) (t : Bool) → same_name x (name_of past piece) ≡ t → IsTrue (t || is_done done x) → x.0 < length (nodes past)
   below_all piece low x true same ran =
-      let n = get_some (commands_in (nodes past)) piece.command low in
+      let n = item_at (commands_in (nodes past)) piece.command low in
       let number : x.0 ≡ n.0.number = eqb-true x.0 (name_of past piece).0 (and_parts (x.0 == (name_of past piece).0) (x.1 == piece.index) same).0 ∙ ap number_of n.1 in
       let lt = number_below (nodes past) (numbered past) n.0 (command_at (nodes past) piece.command n.0 n.1).0 in
       omega (arith, number, lt)
@@ -164,7 +160,7 @@ module _ (o : Offers) (past : Past) (done : List Name) (is : IsOffers o past don
       let has = ready_has o.ready piece at in
       let low = slice_get_within o.ready piece.command has.0 has.1 in
       let size = is.started.lengths in
-      let n = get_some (commands_in (nodes past)) piece.command (omega (arith, low, size)) in
+      let n = item_at (commands_in (nodes past)) piece.command (omega (arith, low, size)) in
       let act : Some n.0.act ≡ Some (Runs c) = sym (get_mapped (λ (m : Node). m.act) (commands_in (nodes past)) piece.command n.0 n.1) ∙ ap (λ (as' : List Act). slice_get as' piece.command) (sym is.acts) ∙ here in
       let runs : n.0.act ≡ Runs c = cc in
       let left = (is.started.each piece.command n.0 has.0 n.1 has.1).left in

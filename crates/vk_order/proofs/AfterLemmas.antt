@@ -1,8 +1,8 @@
 -- Nodes after one that passes a test: by the first such nodes of lines, and by elements of sets.
-use Rattle.std.proofs.Common.{◌≡◌, ◌⊎◌, inl, inr, ⊎_elim, ℕ, ◌<◌, ◌≤◌, List, [], ◌∷◌, length, get_or, Bool, true, false, ◌&&◌, ◌||◌, IsTrue, Some, refl, ap, sym, ◌∙◌, subst, arith}
+use Rattle.std.proofs.Common.{◌≡◌, ◌⊎◌, inl, inr, ⊎_elim, ℕ, ◌≤◌, List, [], Bool, true, false, ◌&&◌, ◌||◌, IsTrue, Some, refl, ap, sym, ◌∙◌, subst, arith}
 use Rattle.std.specs.Prelude.{nat_lt, Contains, slice_get}
 use Rattle.std.proofs.lemmas.Bool.{and_parts, and_from, or_left, or_right, or_cases, eqb-true, eq-eqb}
-use Rattle.std.proofs.lemmas.Option.{slice_get_within, slice_get-get_or}
+use Rattle.std.proofs.lemmas.Option.{slice_get_within}
 use Rattle.vk_model.specs.Sync.Node.{Node, Act, Hosts, Waits, Signals, Runs, Depends, Barrier, SetOf, AwaitOf, same_node}
 use Rattle.vk_model.specs.Sync.Edge.{edge}
 use Rattle.vk_model.specs.Sync.Before.{before, direct, IsNumbered}
@@ -24,6 +24,7 @@ use Rattle.vk_order.proofs.NamedLemmas.{node_there}
 use Rattle.vk_order.proofs.BeforeLemmas.{node_row, by_first}
 use Rattle.vk_order.proofs.SetLemmas.{set_edge, set_to_line}
 use Rattle.vk_order.proofs.ClockLemmas.{place-grows}
+use Rattle.vk_model.proofs.Lists.Items.{item_at}
 
 set_of : (a : Act) → is_set_element a ≡ true → IsSet a
 set_of (Hosts x) h = no h
@@ -116,10 +117,6 @@ module _ (rows : List Row) (test : Node → Bool) where
           (λ e. inl (or_left (test n) (is_carried all test n) (ap test (sym (unique all numbers p n cp cn (eqb-true p.number n.number e))) ∙ parts.0)))
           (λ b. go p cp parts.0 b (is_set_element p.act) refl)
           (or_cases (same_node p n) (before all p n) parts.1)
-
-item_at : (xs : List Stamp) (i : ℕ) → i < length xs → (x : Stamp) × (slice_get xs i ≡ Some x)
-item_at [] i lt = absurd (let bad : i < 0 = lt in omega arith)
-item_at (x ∷ xs) i lt = (get_or (x ∷ xs) i x, slice_get-get_or (x ∷ xs) i x lt)
 
 -- where a node of a line is before another one, so is each earlier one of the line
 pub stamped_prefix : (rows : List Row) (stamps : List Stamp) (ls : List Line) → IsStamped rows stamps ls → (i j n : ℕ) (x y r : Row) (l : Line) → slice_get rows i ≡ Some x → slice_get rows j ≡ Some y → slice_get rows n ≡ Some r

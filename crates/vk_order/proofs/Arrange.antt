@@ -1,20 +1,9 @@
 -- Truth values put in another order.
-use Rattle.std.proofs.Common.{◌≡◌, ℕ, Bool, true, false, ◌&&◌, ◌||◌, not, Option, Some, None, refl, arith}
+use Rattle.std.proofs.Common.{◌≡◌, ℕ, Bool, false, ◌&&◌, ◌||◌, not, Option, Some, None, refl, arith}
 use Rattle.vk_model.specs.Basics.{holds}
 use Rattle.vk_model.specs.Sync.Edge.{meet, scopes_meet}
 use Rattle.vk_order.specs.Lines.{has_transfer, has_host}
-
-pub and-true : (a : Bool) → (a && true) ≡ a
-and-true true = refl
-and-true false = refl
-
-pub and-false : (a : Bool) → (a && false) ≡ false
-and-false true = refl
-and-false false = refl
-
-pub or-false : (a : Bool) → (a || false) ≡ a
-or-false true = refl
-or-false false = refl
+use Rattle.std.proofs.Math.Bool.{and-false}
 
 pub holds-false : {A : Type 0} (o : Option A) → holds o (λ x. false) ≡ false
 holds-false None = refl

@@ -2,7 +2,7 @@
 use Rattle.std.proofs.Common.{◌≡◌, ⊎_elim, ℕ, ◌+◌, ◌<◌, List, [], Bool, true, false, ◌&&◌, Some, refl, ap, sym, ◌∙◌, arith}
 use Rattle.std.specs.Prelude.{nat_lt, Contains, slice_get}
 use Rattle.std.proofs.lemmas.Bool.{cases_lt}
-use Rattle.std.proofs.Math.Bool.{and-false}
+use Rattle.std.proofs.Math.Bool.{and-false, or-false}
 use Rattle.vk_model.specs.Sync.Node.{Node, Act, Hosts, Waits, Signals, Runs, Depends, Barrier, SetOf, AwaitOf}
 use Rattle.vk_model.proofs.Lists.Members.{none_passes_any, member_passes}
 use Rattle.vk_order.specs.declared.acts.Row.{Row}
@@ -12,14 +12,11 @@ use Rattle.vk_order.specs.Lines.{class_on, line_on, is_of_sets}
 use Rattle.vk_order.specs.Edges.{unsignaled}
 use Rattle.vk_order.specs.Inner.Availability.{is_set_element, is_carried, comes_after_sets, HasSets}
 use Rattle.vk_model.specs.Trace.Point.{Point}
-use Rattle.vk_order.proofs.Arrange.{or-false}
 use Rattle.vk_order.proofs.BeforeLemmas.{node_row}
 use Rattle.vk_order.proofs.NamedLemmas.{node_there}
+use Rattle.vk_model.proofs.Lists.Items.{some_same}
 
 module _ (rows : List Row) (test : Node → Bool) (number : ℕ) (row : Row) where
-  carries : ℕ → Row → Bool
-  carries j x = is_set_element (act_of x.act) && test (node_of j x) && (nat_lt j number && unsignaled (node_of j x) (node_of number row))
-
   none_of : ((j : ℕ) (x : Row) → slice_get rows j ≡ Some x → (is_set_element (act_of x.act) && test (node_of j x) && (nat_lt j number && unsignaled (node_of j x) (node_of number row))) ≡ false) → is_carried (nodes_after [] rows) test (node_of number row) ≡ false
   none_of none = none_passes_any (λ s. is_set_element s.act && test s && (nat_lt s.number number && unsignaled s (node_of number row))) (nodes_after [] rows)
       (λ s cs. let found = node_row rows s s.number cs refl in
@@ -70,11 +67,8 @@ pub below_more : (test : ℕ → Row → Bool) (rows : List Row) (k : ℕ) (row 
     → (j : ℕ) (x : Row) → slice_get rows j ≡ Some x → j < k + 1 → test j x ≡ false
 below_more test rows k row at off below j x e lt = ⊎_elim (λ low. below j x e low) (λ high. here (let same : j ≡ k = omega arith in same)) (cases_lt j k)
   where
-    inside : (x y : Row) → Some x ≡ Some y → x ≡ y
-    inside x y h = cc
-
     here : j ≡ k → test j x ≡ false
-    here same = ap (λ (i : ℕ). test i x) same ∙ ap (test k) (inside x row (sym e ∙ ap (slice_get rows) same ∙ at)) ∙ off
+    here same = ap (λ (i : ℕ). test i x) same ∙ ap (test k) (some_same x row (sym e ∙ ap (slice_get rows) same ∙ at)) ∙ off
 
 -- ---- acts on lines
 

@@ -1,12 +1,12 @@
 -- What is before what, by places and clocks, and by the first edge of a path.
-use Rattle.std.proofs.Common.{◌≡◌, ◌⊎◌, inl, inr, ⊎_elim, ℕ, ◌<◌, List, [], ◌∷◌, length, get_or, false, IsTrue, Option, Some, None, refl, ap, sym, ◌∙◌, subst, arith}
+use Rattle.std.proofs.Common.{◌≡◌, ◌⊎◌, inl, inr, ⊎_elim, ℕ, ◌<◌, List, [], length, false, IsTrue, Option, Some, None, refl, ap, sym, ◌∙◌, subst, arith}
 use Rattle.std.specs.Prelude.{nat_lt, Contains, slice_get, slice_index_or}
-use Rattle.std.proofs.lemmas.Bool.{lt-ltb, ltb-true, and_parts}
+use Rattle.std.proofs.lemmas.Bool.{lt-ltb, ltb-true}
 use Rattle.vk_model.specs.Sync.Node.{Node}
 use Rattle.vk_model.specs.Sync.Edge.{edge}
 use Rattle.vk_model.specs.Sync.Before.{before, Path, direct, longer, IsNumbered}
 use Rattle.vk_model.proofs.Lists.Truths.{bool_same}
-use Rattle.vk_model.proofs.Sync.Paths.{path_of_before, before_of_path, source, target}
+use Rattle.vk_model.proofs.Sync.Paths.{path_of_before, before_of_path, target}
 use Rattle.vk_order.specs.declared.acts.Row.{Row}
 use Rattle.vk_order.specs.declared.clocks.Stamp.{Stamp}
 use Rattle.vk_order.specs.declared.lines.Line.{Line}
@@ -14,11 +14,12 @@ use Rattle.vk_order.specs.PointViews.{node_of, nodes_after}
 use Rattle.vk_order.specs.Lines.{line_of}
 use Rattle.vk_order.specs.Inner.Kept.{clock_at, IsStamped}
 use Rattle.vk_order.specs.Inner.Places.{index_in}
-use Rattle.std.proofs.lemmas.Option.{slice_get-get_or, get_or_from_slice_get}
+use Rattle.std.proofs.lemmas.Option.{get_or_from_slice_get}
 use Rattle.vk_model.proofs.Sync.Numbers.{number_below}
 use Rattle.vk_order.proofs.RowLemmas.{numbered_after, length-nodes_after}
 use Rattle.vk_order.proofs.EdgeLemmas.{row_is}
 use Rattle.vk_order.proofs.NamedLemmas.{node_there}
+use Rattle.vk_model.proofs.Lists.Items.{item_at}
 
 -- the place of one against the clock of the other
 pub counted : (rows : List Row) (stamps : List Stamp) (ts : List Line) (i j : ℕ) (q r : Row) (s t : Stamp) (l : Line) → IsStamped rows stamps ts → slice_get rows i ≡ Some q → slice_get rows j ≡ Some r → slice_get stamps i ≡ Some s → slice_get stamps j ≡ Some t
@@ -75,10 +76,6 @@ module _ (ns : List Node) (numbers : IsNumbered ns) (m : Node) (cm : Contains ns
       (λ h. Rattle.vk_model.proofs.Sync.Paths.joined ns m s.0 n (direct cm s.1 s.2) (path_of_before ns numbers s.0 n s.1 cn h)) s.3)
 
 -- ---- the row of a node
-
-item_at : (xs : List Row) (i : ℕ) → i < length xs → (x : Row) × (slice_get xs i ≡ Some x)
-item_at [] i lt = absurd (let bad : i < 0 = lt in omega arith)
-item_at (x ∷ xs) i lt = (get_or (x ∷ xs) i x, slice_get-get_or (x ∷ xs) i x lt)
 
 pub node_row : (rows : List Row) (m : Node) (i : ℕ) → Contains (nodes_after [] rows) m → m.number ≡ i → (q : Row) × (slice_get rows i ≡ Some q) × (m ≡ node_of i q)
 node_row rows m i c e =

@@ -317,13 +317,6 @@ module _ (ns : List Node) (n : Node) (clock : Clock) (numbers : IsNumbered ns) (
   by_own l m cm on own false true e f lt = absurd (let less = place-less ns numbers l n m.number hn own (ltb-true _ _ f) in omega arith)
   by_own l m cm on own false false e f lt = inl (unique ns numbers m n cm hn (let a = ltb-false _ _ e in let b = ltb-false _ _ f in omega arith))
 
-  counts_less : (l : Line) → clock l ≤ itself ns n clock l
-  counts_less l = go (on_line l n) (is.bounded l)
-    where
-      go : (t : Bool) → clock l ≤ place ns l n.number → clock l ≤ (if t then place ns l n.number + 1 else clock l)
-      go true le = omega arith
-      go false le = omega arith
-
   alone_at : (l : Line) (m : Node) → Contains ns m → line_of m ≡ Some l → (t : Bool) → on_line l n ≡ t → place ns l m.number < itself ns n clock l → Leads ns (same_node n) m
   alone_at l m cm on true e lt =
       let own : itself ns n clock l ≡ place ns l n.number + 1 = rw e refl in
@@ -331,26 +324,3 @@ module _ (ns : List Node) (n : Node) (clock : Clock) (numbers : IsNumbered ns) (
   alone_at l m cm on false e lt =
       let other : itself ns n clock l ≡ clock l = rw e refl in
       (n, hn, eq-eqb n.number n.number refl, inr ((is.counts l m cm on).1 (omega arith)))
-
-  alone_below : (l : Line) (t : Bool) → on_line l n ≡ t → itself ns n clock l ≤ place ns l (length ns)
-  alone_below l true e =
-      let own : itself ns n clock l ≡ place ns l n.number + 1 = rw e refl in
-      let less = place-less ns numbers l n (length ns) hn (of_on l n e) (number_below ns numbers n hn) in omega arith
-  alone_below l false e =
-      let other : itself ns n clock l ≡ clock l = rw e refl in
-      let le = is.bounded l in
-      let more = place-grows ns l n.number (length ns) (let low = number_below ns numbers n hn in omega arith) in omega arith
-
-  pub one_join : IsJoin ns (same_node n) (itself ns n clock)
-  one_join = record {
-    counts = λ l m cm on. (
-      (λ (k, ck, t, way). let same = at_n k ck t in ⊎_elim
-          (λ e. let at : m ≡ n = e ∙ same in
-          let own : itself ns n clock l ≡ place ns l n.number + 1 = rw (is_on l n (ap line_of (sym at) ∙ on)) refl in
-          let here : m.number ≡ n.number = ap (λ (x : Node). x.number) at in
-          let there : place ns l m.number ≡ place ns l n.number = ap (place ns l) here in omega arith)
-          (λ h. let lt = (is.counts l m cm on).0 (subst (λ (x : Node). IsTrue (before ns m x)) same h) in let le = counts_less l in omega arith) way),
-      (λ lt. alone_at l m cm on (on_line l n) refl lt),
-    );
-    bounded = λ l. alone_below l (on_line l n) refl;
-  }

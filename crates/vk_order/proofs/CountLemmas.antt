@@ -1,14 +1,14 @@
 -- Lists of counts, and each count of them by itself.
-use Rattle.std.proofs.Common.{◌≡◌, ⊎_elim, ℕ, ◌<◌, ◌≤◌, true, ◌&&◌, List, length, Option, Some, None, refl, ap, sym, ◌∙◌, arith}
+use Rattle.std.proofs.Common.{◌≡◌, ⊎_elim, ℕ, ◌<◌, ◌≤◌, true, List, length, Option, Some, None, refl, ap, sym, ◌∙◌, arith}
 use Rattle.std.specs.Prelude.{max, map, nat_le, slice_index_or}
 use Rattle.std.specs.Option.{option_map_or}
 use Rattle.std.proofs.lemmas.List.{length-map, get_or_past}
-use Rattle.std.proofs.lemmas.Bool.{cases_lt, and_parts, leb-true}
+use Rattle.std.proofs.lemmas.Bool.{cases_lt}
 use Rattle.std.proofs.Math.ListN.{get_or-map}
 use Rattle.vk_model.specs.Sync.Seen.{Read, Write}
 use Rattle.vk_order.specs.declared.counts.Counts.{Counts}
 use Rattle.vk_order.specs.declared.lines.Line.{Line}
-use Rattle.vk_order.specs.Inner.Counts.{zero_counts, joined_counts, covers, hidden, count_in, counts_on, AreJoinedCounts}
+use Rattle.vk_order.specs.Inner.Counts.{zero_counts, joined_counts, hidden, count_in, counts_on, AreJoinedCounts}
 use Rattle.vk_order.specs.Inner.Kept.{clock_at}
 use Rattle.vk_order.specs.Inner.Places.{index_in}
 use Rattle.vk_order.specs.Inner.Rows.{Knowledge, Available, Visible, OnHost, AreJoined}
@@ -72,9 +72,6 @@ max_none n = omega arith
 joined_none : (c : Counts) → joined_counts c zero_counts ≡ c
 joined_none c = rw (max_none c.clock, max_none c.available, max_none c.reads, max_none c.writes, max_none c.host_reads, max_none c.host_writes) refl
 
-max_least : (m n : ℕ) → nat_le n m ≡ true → max n m ≡ m
-max_least m n le = omega (arith, leb-true n m le)
-
 -- counts that are the greater ones already
 record AreLess (c d : Counts) : Type 0 where
   clock : nat_le d.clock c.clock ≡ true
@@ -83,31 +80,6 @@ record AreLess (c d : Counts) : Type 0 where
   writes : nat_le d.writes c.writes ≡ true
   host_reads : nat_le d.host_reads c.host_reads ≡ true
   host_writes : nat_le d.host_writes c.host_writes ≡ true
-
-are_less : (c d : Counts) → covers c d ≡ true → AreLess c d
-are_less c d is =
-    let all = and_parts (nat_le d.clock c.clock && nat_le d.available c.available && nat_le d.reads c.reads && nat_le d.writes c.writes && nat_le d.host_reads c.host_reads) (nat_le d.host_writes c.host_writes) is in
-    let five = and_parts (nat_le d.clock c.clock && nat_le d.available c.available && nat_le d.reads c.reads && nat_le d.writes c.writes) (nat_le d.host_reads c.host_reads) all.0 in
-    let four = and_parts (nat_le d.clock c.clock && nat_le d.available c.available && nat_le d.reads c.reads) (nat_le d.writes c.writes) five.0 in
-    let three = and_parts (nat_le d.clock c.clock && nat_le d.available c.available) (nat_le d.reads c.reads) four.0 in
-    let two = and_parts (nat_le d.clock c.clock) (nat_le d.available c.available) three.0 in
-    record { clock = two.0; available = two.1; reads = three.1; writes = four.1; host_reads = five.1; host_writes = all.1 }
-
-pub less_joined : (c d : Counts) → covers c d ≡ true → joined_counts d c ≡ c
-less_joined c d is =
-    let less = are_less c d is in
-    rw (max_least c.clock d.clock less.clock, max_least c.available d.available less.available, max_least c.reads d.reads less.reads, max_least c.writes d.writes less.writes, max_least c.host_reads d.host_reads less.host_reads, max_least c.host_writes d.host_writes less.host_writes) refl
-
--- a list that has the greater counts already
-pub joined_covered : (first second : List Counts) → length first ≤ length second
-    → ((i : ℕ) → i < length first → covers (slice_index_or second i zero_counts) (slice_index_or first i zero_counts) ≡ true) → AreJoinedCounts first second second
-joined_covered first second le each = record {
-  counts = λ i. ⊎_elim
-      (λ lt. sym (less_joined (slice_index_or second i zero_counts) (slice_index_or first i zero_counts) (each i lt)))
-      (λ ge. sym (ap (λ (x : Counts). joined_counts x (slice_index_or second i zero_counts)) (get_or_past first i zero_counts ge) ∙ none_joined (slice_index_or second i zero_counts)))
-      (cases_lt i (length first));
-  long = omega arith;
-}
 
 -- past the end of the other list there is nothing to join
 pub joined_past : (c : Counts) (other : List Counts) (i : ℕ) → length other ≤ i → c ≡ joined_counts c (slice_index_or other i zero_counts)

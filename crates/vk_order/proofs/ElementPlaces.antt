@@ -50,7 +50,7 @@ elsewhere past p c is away m at element =
 
 -- ---- elements of one command are together
 
-same_itself : (p : Point) → same_place p p ≡ true
+pub same_itself : (p : Point) → same_place p p ≡ true
 same_itself p = rw (eq-eqb p.entry p.entry refl, eq-eqb p.batch p.batch refl, eq-eqb p.place p.place refl) refl
 
 module _ (p : Point) (past : Past) (away : IsElsewhere p past) (x y z : Node) (xy : x.number < y.number) (yz : y.number < z.number) (element : IsTrue (is_element y.act)) (kin : IsTrue (siblings x z)) where

@@ -1,5 +1,5 @@
 -- Fronts, and what they are made of.
-use Rattle.std.proofs.Common.{◌≡◌, ℕ, ◌<◌, ◌≤◌, List, [], ◌∷◌, length, Bool, true, false, ◌||◌, IsTrue, Option, Some, None, refl, ap, sym, ◌∙◌, subst, arith}
+use Rattle.std.proofs.Common.{◌≡◌, ℕ, List, [], ◌∷◌, Bool, true, false, ◌||◌, Option, Some, None, refl, ap, sym, ◌∙◌, subst, arith}
 use Rattle.std.specs.Prelude.{Contains, max, map}
 use Rattle.vk_model.specs.Sync.Node.{Node}
 use Rattle.vk_model.specs.Sync.Before.{IsNumbered}
@@ -8,14 +8,14 @@ use Rattle.vk_order.specs.declared.counts.Counts.{Counts}
 use Rattle.vk_order.specs.declared.fronts.Front.{Front}
 use Rattle.vk_order.specs.Inner.Clocks.{IsWhole, joined, extended}
 use Rattle.vk_order.specs.Inner.Counts.{count_in, AreJoinedCounts}
-use Rattle.vk_order.specs.Inner.Kept.{clock_at, IsKeptJoin, IsLonger}
+use Rattle.vk_order.specs.Inner.Kept.{clock_at, IsKeptJoin}
 use Rattle.vk_order.specs.Inner.Rows.{Knowledge, IsKeptRow, AreJoined}
 use Rattle.vk_order.specs.Inner.Fronts.{clock_in, row_in, IsFront, IsNamed, IsOwnFront}
-use Rattle.vk_order.proofs.Arrange.{or-false}
 use Rattle.vk_order.proofs.CountLemmas.{joined_clocks, joined_rows}
 use Rattle.vk_order.proofs.ClockLemmas.{join_stays, join_grows}
 use Rattle.vk_order.proofs.KeptLemmas.{join_as, at_max, join_none, joins_kept, same_kept}
 use Rattle.vk_order.proofs.RowJoins.{rows_same, rows_as, rows_meet, rows_stay, rows_grow, rows_none}
+use Rattle.std.proofs.Math.Bool.{or-false}
 
 -- ---- lists of counts, joined
 
@@ -107,18 +107,3 @@ module _ (ns : List Node) (ls : List Line) (test : Node → Bool) (n : Node) (nu
 pub named_same : (ns : List Node) (ls : List Line) (f h : Node → Bool) (o : Option Front) → ((k : Node) → Contains ns k → f k ≡ h k) → IsNamed ns ls f o → IsNamed ns ls h o
 named_same ns ls f h None same none = λ k c. sym (same k c) ∙ none k c
 named_same ns ls f h (Some x) same is = front_same ns ls f h x same is
-
--- ---- more lines
-
--- what a front says it says over more lines too
-pub front_longer : (ns : List Node) (ls more : List Line) → IsLonger ls more → (test : Node → Bool) (x : Front) → IsFront ns ls test x → IsFront ns more test x
-front_longer ns ls more longer test x is = record {
-  clock = record {
-    join = join_as ns test (clock_at ls (clock_in x)) (clock_at more (clock_in x)) (longer.same (clock_in x) is.clock.short) is.clock.join;
-    short = let a = is.clock.short in let b = longer.long in omega arith;
-  };
-  rows = λ g. record {
-    join = rows_as g ns test (clock_at ls (row_in g x)) (clock_at more (row_in g x)) (longer.same (row_in g x) (is.rows g).short) (is.rows g).join;
-    short = let a = (is.rows g).short in let b = longer.long in omega arith;
-  };
-}

@@ -1,13 +1,10 @@
 -- Kept clocks, and the joins that they are made of: lists of counts by the index of a line.
-use Rattle.std.proofs.Common.{◌≡◌, ◌⊎◌, inl, inr, ⊎_elim, ℕ, zero, suc, ◌+◌, ◌<◌, ◌≤◌, List, [], ◌∷◌, ◌++◌, length, take, get_or, add-one, Bool, true, false, ◌&&◌, ◌||◌, Option, Some, None, refl, ap, sym, ◌∙◌, arith}
-use Rattle.std.specs.Prelude.{◌==◌, Contains, ◌↔◌, max, min, slice_get, slice_index_or, position, is_some, if◌then◌else◌}
+use Rattle.std.proofs.Common.{◌≡◌, ℕ, zero, suc, ◌+◌, ◌≤◌, List, [], ◌∷◌, length, get_or, Bool, true, false, ◌&&◌, ◌||◌, Option, Some, None, refl, ap, sym, ◌∙◌, arith}
+use Rattle.std.specs.Prelude.{◌==◌, Contains, max, slice_get, slice_index_or, if◌then◌else◌}
 use Rattle.std.specs.Option.{option_map_or}
-use Rattle.std.specs.List.{list_any}
 use Rattle.std.proofs.lemmas.Bool.{eq-eqb, ne_eqb}
-use Rattle.std.proofs.lemmas.List.Folds.{list_any-append}
 use Rattle.std.proofs.lemmas.List.Quantifiers.{position-Some}
 use Rattle.std.proofs.lemmas.Option.{slice_get_within, slice_get-get_or}
-use Rattle.std.proofs.Math.Seq.{take-suc}
 use Rattle.vk_model.specs.Basics.{holds}
 use Rattle.vk_model.specs.Sync.Node.{Node, Hosts, Waits, Signals, Runs, Depends, Barrier, SetOf, AwaitOf}
 use Rattle.vk_model.proofs.Lists.Truths.{no}
@@ -80,21 +77,6 @@ joins_kept ns ls f g first second both counts len i j = record {
 
 pub same_kept : (ns : List Node) (ls : List Line) (f g : Node → Bool) (clock : List ℕ) → ((k : Node) → Contains ns k → f k ≡ g k) → IsKeptJoin ns ls f clock → IsKeptJoin ns ls g clock
 same_kept ns ls f g clock same j = record { join = join_same ns f g (clock_at ls clock) same j.join; short = j.short }
-
--- ---- lists
-
-pub push_cases : {A : Type 0} (xs : List A) (x y : A) (i : ℕ) → slice_get (xs ++ x ∷ []) i ≡ Some y → (slice_get xs i ≡ Some y) ⊎ ((i ≡ length xs) × (x ≡ y))
-push_cases [] x y zero e = inr (refl, cc)
-push_cases [] x y (suc i) e = absurd cc
-push_cases (z ∷ xs) x y zero e = inl e
-push_cases (z ∷ xs) x y (suc i) e = ⊎_elim (λ h. inl h) (λ h. inr (let at = h.0 in omega arith, h.1)) (push_cases xs x y i e)
-
-pub any-step : {A : Type 0} (f : A → Bool) (xs : List A) (i : ℕ) (d : A) → i < length xs → list_any f (take (i + 1) xs) ≡ (list_any f (take i xs) || f (get_or xs i d))
-any-step f xs i d lt = rw (add-one, take-suc xs i d lt, list_any-append f (take i xs) (get_or xs i d ∷ [])) (ap (λ (t : Bool). list_any f (take i xs) || t) (last (f (get_or xs i d))))
-  where
-    last : (t : Bool) → (t || false) ≡ t
-    last true = refl
-    last false = refl
 
 -- ---- a node by itself
 

@@ -23,9 +23,10 @@ use Rattle.vk_order.specs.Inner.Clocks.{Clock, IsClock}
 use Rattle.vk_order.specs.Inner.Leads.{is_of_host, is_of_barriers}
 use Rattle.vk_order.specs.Inner.Rows.{makes_all_available, makes_queue_available, makes_all_visible_on_host, makes_available, shows, Knowledge, Available, Visible, OnHost, IsAvailable, IsKnown, Knows, KnowsOne, IsRow, IsKnownRow, IsRowJoin, makes_line_available}
 use Rattle.vk_order.proofs.LinePrefixes.{linked, node, of_linked, to_linked, host_line, command_line, signal_line, element_line, wait_line, no_set_line, host_edge}
-use Rattle.vk_order.proofs.Arrange.{and-true, and-false, or-false, scopes}
+use Rattle.vk_order.proofs.Arrange.{scopes}
 use Rattle.vk_order.proofs.ByEdges.{old_before, by_last, by_edge}
 use Rattle.vk_order.proofs.ClockLemmas.{place-older, place-less}
+use Rattle.std.proofs.Math.Bool.{and-true, and-false, or-false}
 
 -- ---- what the commands of a queue lead to
 
@@ -35,10 +36,6 @@ takes q n = not (is_host n.act) && q == n.point.queue && not (is_command n.act) 
 
 pub command_takes : (ns : List Node) (i : ℕ) (p : Point) (x : Cmd) (n : Node) → linked ns (node i p (Runs x)) n ≡ takes p.queue n
 command_takes ns i p x n = simp (scopes, and-true, and-false, or-false)
-
--- whether a node makes the writes of the commands of queue q available
-abbrev pub takes_all : ℕ → Node → Bool
-takes_all q n = makes_queue_available n.act && q == n.point.queue
 
 makes_available_takes : (q : ℕ) (i : ℕ) (p : Point) (a : Act) → (makes_all_available a && takes q (node i p a)) ≡ (makes_queue_available a && q == p.queue)
 makes_available_takes q i p (Hosts x) = refl
@@ -242,9 +239,9 @@ module _ (ns : List Node) (n : Node) (numbers : IsNumbered (n ∷ ns)) where
         let h : IsTrue (before (n ∷ ns) c n) = before_of_path (n ∷ ns) numbers c n (contains-tail n ns c hc) (contains-head n ns)
         (direct (contains-tail n ns c hc) (contains-head n ns) (host_edge (n ∷ ns) c n up (ap is_host of.1) (submit_host n.act submit))) in
         subst (λ (a : Act). IsTrue (makes_available (n ∷ ns) c a n)) (sym of.1) (and_from (is_submit n.act) (before (n ∷ ns) c n) submit h)
-    made_here (OfCommands q) c hc on sent =
+    made_here (OfCommands q) c hc on available =
         let of = command_line c.point.queue q c.act on in
-        let parts = and_parts (makes_all_available n.act) (takes q n) (makes_available_takes q n.number n.point n.act ∙ sent) in
+        let parts = and_parts (makes_all_available n.act) (takes q n) (makes_available_takes q n.number n.point n.act ∙ available) in
         subst (λ (a : Act). IsTrue (makes_available (n ∷ ns) c a n)) (sym of.1) (and_from (edge (n ∷ ns) c n) (makes_all_available n.act) (takes_edge q c hc on parts.1) parts.0)
     made_here (OfElements q t u) c hc on h = no h
     made_here (OfSignals q) c hc on h = no h
@@ -253,8 +250,8 @@ module _ (ns : List Node) (n : Node) (numbers : IsNumbered (n ∷ ns)) where
 
     forth : (l : Line) (c : Node) → Contains ns c → line_of c ≡ Some l → IsAvailable (n ∷ ns) c n → place ns l c.number < own l
     forth l c hc on (p, cp, s, inl same) =
-        let sent = available_here l c hc on (subst (λ (x : Node). IsTrue (makes_available (n ∷ ns) c c.act x)) same s) in
-        let all : own l ≡ place ns l (length ns) = is l ∙ rw sent refl in
+        let available = available_here l c hc on (subst (λ (x : Node). IsTrue (makes_available (n ∷ ns) c c.act x)) same s) in
+        let all : own l ≡ place ns l (length ns) = is l ∙ rw available refl in
         let less = place-less ns numbers.1 l c (length ns) hc on (low c hc) in omega arith
     forth l c hc on (p, cp, s, inr h) =
         let there = older_of p n cp (contains-head n ns) h in
@@ -276,17 +273,17 @@ module _ (ns : List Node) (n : Node) (numbers : IsNumbered (n ∷ ns)) where
     available_row = row_from Available own (λ l c hc on. ((λ h. forth l c hc on h), (λ lt. back l c hc on (makes_line_available n.point.queue n.act l) refl lt))) fits
 
   -- and known there
-  pub known_row : (clock sent : Clock) → IsClock (n ∷ ns) n clock → IsRow Available (n ∷ ns) n sent → IsKnownRow (n ∷ ns) n (λ l. if is_of_barriers l then clock l else sent l)
-  known_row clock sent is_clock is = record {
+  pub known_row : (clock available : Clock) → IsClock (n ∷ ns) n clock → IsRow Available (n ∷ ns) n available → IsKnownRow (n ∷ ns) n (λ l. if is_of_barriers l then clock l else available l)
+  known_row clock available is_clock is = record {
     counts = λ l c hc on. go l c hc on (is_of_barriers l) refl;
     bounded = λ l. at l (is_of_barriers l);
   }
     where
-      at : (l : Line) (t : Bool) → (if t then clock l else sent l) ≤ place (n ∷ ns) l n.number
+      at : (l : Line) (t : Bool) → (if t then clock l else available l) ≤ place (n ∷ ns) l n.number
       at l true = is_clock.bounded l
       at l false = is.bounded l
 
-      go : (l : Line) (c : Node) → Contains (n ∷ ns) c → line_of c ≡ Some l → (t : Bool) → is_of_barriers l ≡ t → IsKnown (n ∷ ns) c n ↔ (place (n ∷ ns) l c.number < (if t then clock l else sent l))
+      go : (l : Line) (c : Node) → Contains (n ∷ ns) c → line_of c ≡ Some l → (t : Bool) → is_of_barriers l ≡ t → IsKnown (n ∷ ns) c n ↔ (place (n ∷ ns) l c.number < (if t then clock l else available l))
       go l c hc on true e =
           let element : is_element c.act ≡ true = element_on c.point.queue c.act l on ∙ e in (
             (λ h. ⊎_elim (λ s. absurd (unmade (n ∷ ns) c s.0 c.act element s.2)) (λ b. (is_clock.counts l c hc on).0 b.1) h),
@@ -299,37 +296,37 @@ module _ (ns : List Node) (n : Node) (numbers : IsNumbered (n ∷ ns)) where
           )
 
   -- and visible there
-  module _ (sent : Clock) (is : IsKnownRow (n ∷ ns) n sent) where
-    pub visible_row : (k : Access) (own : Clock) → ((l : Line) → own l ≡ (if shows k (is_of_host l) n.act then sent l else 0)) → IsRow (Visible k) (n ∷ ns) n own
+  module _ (available : Clock) (is : IsKnownRow (n ∷ ns) n available) where
+    pub visible_row : (k : Access) (own : Clock) → ((l : Line) → own l ≡ (if shows k (is_of_host l) n.act then available l else 0)) → IsRow (Visible k) (n ∷ ns) n own
     visible_row k own same = record {
       counts = λ l c cc' on.
           let host : shows k (is_host c.act) n.act ≡ shows k (is_of_host l) n.act = ap (λ (t : Bool). shows k t n.act) (host_on c.point.queue c.act l on) in (
-            (λ h. let e : own l ≡ sent l = same l ∙ rw (sym host ∙ h.0) refl in let lt = (is.counts l c cc' on).0 h.1 in omega arith),
+            (λ h. let e : own l ≡ available l = same l ∙ rw (sym host ∙ h.0) refl in let lt = (is.counts l c cc' on).0 h.1 in omega arith),
             (λ lt. let r = go l c cc' on (shows k (is_of_host l) n.act) refl (same l) lt in (host ∙ r.0, r.1)),
           );
       bounded = λ l. at (shows k (is_of_host l) n.act) l (same l) (is.bounded l);
     }
       where
-        go : (l : Line) (c : Node) → Contains (n ∷ ns) c → line_of c ≡ Some l → (t : Bool) → shows k (is_of_host l) n.act ≡ t → own l ≡ (if t then sent l else 0) → place (n ∷ ns) l c.number < own l
+        go : (l : Line) (c : Node) → Contains (n ∷ ns) c → line_of c ≡ Some l → (t : Bool) → shows k (is_of_host l) n.act ≡ t → own l ≡ (if t then available l else 0) → place (n ∷ ns) l c.number < own l
             → IsTrue (shows k (is_of_host l) n.act) × IsKnown (n ∷ ns) c n
         go l c cc' on true e f lt = (e, (is.counts l c cc' on).1 (omega arith))
         go l c cc' on false e f lt = absurd (omega arith)
 
-        at : (t : Bool) (l : Line) → own l ≡ (if t then sent l else 0) → sent l ≤ place (n ∷ ns) l n.number → own l ≤ place (n ∷ ns) l n.number
+        at : (t : Bool) (l : Line) → own l ≡ (if t then available l else 0) → available l ≤ place (n ∷ ns) l n.number → own l ≤ place (n ∷ ns) l n.number
         at true l e le = omega arith
         at false l e le = omega arith
 
     -- and on the host
     module _ (k : Access) (row own : Clock) (j : IsRowJoin (OnHost k) ns (λ m. edge ns m n) row)
-        (same : (l : Line) → own l ≡ (if makes_all_visible_on_host k n.act then max (row l) (sent l) else row l)) where
-      bound : (l : Line) (t : Bool) → own l ≡ (if t then max (row l) (sent l) else row l) → own l ≤ place ns l (length ns)
+        (same : (l : Line) → own l ≡ (if makes_all_visible_on_host k n.act then max (row l) (available l) else row l)) where
+      bound : (l : Line) (t : Bool) → own l ≡ (if t then max (row l) (available l) else row l) → own l ≤ place ns l (length ns)
       bound l true e = let a = j.bounded l in let b = is.bounded l in let c = at_new l in omega arith
       bound l false e = let a = j.bounded l in omega arith
 
       into : (l : Line) (c : Node) → Contains ns c → line_of c ≡ Some l → Knows (OnHost k) (n ∷ ns) c n → place ns l c.number < own l
       into l c hc on (x, cx, r, inl e, s) =
           let r_n : makes_all_visible_on_host k n.act ≡ true = ap (λ (y : Node). makes_all_visible_on_host k y.act) (sym e) ∙ r in
-          let at : own l ≡ max (row l) (sent l) = same l ∙ rw r_n refl in
+          let at : own l ≡ max (row l) (available l) = same l ∙ rw r_n refl in
           let lt = (is.counts l c (contains-tail n ns c hc) on).0 (subst (λ (y : Node). IsKnown (n ∷ ns) c y) e s) in
           let old = at_old l c hc in omega arith
       into l c hc on (x, cx, r, inr h, s) =
@@ -338,7 +335,7 @@ module _ (ns : List Node) (n : Node) (numbers : IsNumbered (n ∷ ns)) where
           let less = (j.counts l c hc on).0 (last.0, last.1, last.2, (x, there, r, last.3, heard_old c x there s)) in
           go (makes_all_visible_on_host k n.act) (same l) less
         where
-          go : (t : Bool) → own l ≡ (if t then max (row l) (sent l) else row l) → place ns l c.number < row l → place ns l c.number < own l
+          go : (t : Bool) → own l ≡ (if t then max (row l) (available l) else row l) → place ns l c.number < row l → place ns l c.number < own l
           go true e lt = omega arith
           go false e lt = omega arith
 
@@ -351,7 +348,7 @@ module _ (ns : List Node) (n : Node) (numbers : IsNumbered (n ∷ ns)) where
       out : (l : Line) (c : Node) → Contains ns c → line_of c ≡ Some l → (t u : Bool) → makes_all_visible_on_host k n.act ≡ t → nat_lt (place ns l c.number) (row l) ≡ u → place ns l c.number < own l → Knows (OnHost k) (n ∷ ns) c n
       out l c hc on t true e f lt = from_kept l c hc on (ltb-true _ _ f)
       out l c hc on true false e f lt =
-          let at : own l ≡ max (row l) (sent l) = same l ∙ rw e refl in
+          let at : own l ≡ max (row l) (available l) = same l ∙ rw e refl in
           let ge = ltb-false _ _ f in
           let old = at_old l c hc in
           (n, contains-head n ns, e, inl refl, (is.counts l c (contains-tail n ns c hc) on).1 (omega arith))

@@ -1,7 +1,7 @@
 -- Of the nodes of a line the earlier ones lead wherever a later one leads.
 use Rattle.std.proofs.Common.{◌≡◌, ℕ, ◌<◌, List, Bool, true, false, ◌&&◌, ◌||◌, not, IsTrue, Some, refl, ap, sym, ◌∙◌, arith}
 use Rattle.std.specs.Prelude.{nat_lt, Contains, ◌==◌}
-use Rattle.std.proofs.lemmas.Bool.{lt-ltb, and_parts, and_from, or_right, eq-eqb}
+use Rattle.std.proofs.lemmas.Bool.{lt-ltb, and_parts, and_from, or_right, eq-eqb, or_left}
 use Rattle.vk_model.specs.declared.command.Cmd.{Cmd}
 use Rattle.vk_model.specs.declared.command.Element.{Element}
 use Rattle.vk_model.specs.declared.entry.Entry.{Entry}
@@ -15,7 +15,7 @@ use Rattle.vk_model.specs.Sync.Before.{before, Path, direct, longer, IsNumbered}
 use Rattle.vk_order.specs.declared.lines.Line.{Line}
 use Rattle.vk_order.specs.declared.lines.Line.TheVariants.{Host as OfHost, Commands as OfCommands, Signals as OfSignals, Elements as OfElements, Sets as OfSets, Waits as OfWaits}
 use Rattle.vk_order.specs.Lines.{has_transfer, has_host, line_on, line_of, IsPlaced}
-use Rattle.vk_model.proofs.Lists.Truths.{no, third_of_six}
+use Rattle.vk_model.proofs.Lists.Truths.{no}
 use Rattle.vk_model.proofs.Sync.Paths.{path_of_before, before_of_path, joined, edge_forward}
 
 -- ---- edges, but for the order of numbers
@@ -228,7 +228,7 @@ module _ (ns : List Node) (c d : Node) (lt : c.number < d.number) where
   signal_edge x y ec ed q =
       let same : (c.point.queue == d.point.queue) ≡ true = eq-eqb c.point.queue d.point.queue q in
       let is : by_signal c d ≡ true = rw (ec, ed, same) refl in
-      of_linked ns c d lt (third_of_six (by_host c d) (by_stages c d) (by_signal c d) (by_all_commands c d) (pairs c.act d.act) (by_semaphore (earlier d ns) c d) is)
+      of_linked ns c d lt (or_left _ (by_semaphore (earlier d ns) c d) (or_left _ (pairs c.act d.act) (or_left _ (by_all_commands c d) (or_right (by_host c d || by_stages c d) (by_signal c d) is))))
 
 -- ---- the law
 

@@ -14,10 +14,11 @@ use Rattle.vk_order.specs.Lines.{class_on, class_of}
 use Rattle.vk_order.specs.Prefixes.{submits, to_transfer, to_commands, to_hosts, signals_on, elements_on, elements_to_host, waits_all_on, by_scopes, from_transfer, from_host}
 use Rattle.vk_order.specs.Inner.Leads.{is_of_commands, is_of_elements, is_of_host, ends_in_transfer, ends_in_host, waits_for_all, leads_to_signals, line_leads}
 use Rattle.vk_order.specs.Inner.Links.{by_name}
-use Rattle.vk_order.proofs.Arrange.{and-true, and-false, or-false, holds-false}
+use Rattle.vk_order.proofs.Arrange.{holds-false}
 use Rattle.vk_order.proofs.LinePrefixes.{node}
 use Rattle.vk_order.proofs.NodeEdges.{pairs-host, pairs-wait, pairs-signal, pairs-command, pairs-barrier, pairs-set}
 use Rattle.vk_order.proofs.ByEdges.{edge_host, edge_wait, edge_signal, edge_command, edge_barrier, edge_set, edge_await}
+use Rattle.std.proofs.Math.Bool.{and-true, and-false, or-false}
 
 -- ---- each test, by the line
 

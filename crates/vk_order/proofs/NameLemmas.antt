@@ -24,6 +24,7 @@ use Rattle.vk_order.specs.Inner.Keyed.{front_at}
 use Rattle.vk_order.specs.Inner.Names.{is_set_of, signals_value, IsNameless, IsNames, IsNext}
 use Rattle.vk_order.proofs.NamedLemmas.{after_earlier}
 use Rattle.vk_order.proofs.FrontLemmas.{named_stays}
+use Rattle.std.proofs.Math.Bool.{and-false}
 
 -- ---- nodes that have names are known by themselves
 
@@ -79,7 +80,7 @@ module _ (ns : List Node) (ls : List Line) (n : Node) (row : Row) (own : Front) 
           (subst (λ (o : Option Front). IsNamed ns ls (submits e) o) (ap old (sym same)) (each e)))
       go false f =
           let differ : row.point.entry ≢ e = (λ h. no (sym f ∙ Rattle.std.proofs.lemmas.Bool.eq-eqb row.point.entry e h)) in
-          let fails : submits e n ≡ false = ap (λ (i : ℕ). is_submit n.act && i == e) its_entry ∙ ap (λ (t : Bool). is_submit n.act && t) f ∙ Rattle.vk_order.proofs.Arrange.and-false (is_submit n.act) in
+          let fails : submits e n ≡ false = ap (λ (i : ℕ). is_submit n.act && i == e) its_entry ∙ ap (λ (t : Bool). is_submit n.act && t) f ∙ and-false (is_submit n.act) in
           subst (λ (o : Option Front). IsNamed (n ∷ ns) ls (submits e) o) (sym (others e differ)) (named_stays ns ls (submits e) n next.numbers (old e) fails (each e))
 
   pub submits_same : (old : ℕ → Option Front) → is_submit (act_of row.act) ≡ false → ((e : ℕ) → IsNamed ns ls (submits e) (old e)) → (e : ℕ) → IsNamed (n ∷ ns) ls (submits e) (old e)
@@ -102,7 +103,7 @@ module _ (ns : List Node) (ls : List Line) (n : Node) (row : Row) (own : Front) 
             subst (λ (o : Option Front). IsNamed (n ∷ ns) ls (tests i u) o) (sym (ap (λ (x : ℕ). new x u) (sym a) ∙ ap (new v) (sym b) ∙ here))
             (grows (tests i u) (is i u ∙ and_from (v == i) (k == u) e f) (alone_whole (n ∷ ns) next.numbers (tests i u) (alone i u))
             (subst (λ (o : Option Front). IsNamed ns ls (tests i u) o) (ap (λ (x : ℕ). old x u) (sym a) ∙ ap (old v) (sym b)) (each i u)))
-        go true false e f = other (ap (λ (t : Bool). v == i && t) f ∙ Rattle.vk_order.proofs.Arrange.and-false (v == i)) (inr (λ h. no (sym f ∙ Rattle.std.proofs.lemmas.Bool.eq-eqb k u (sym h))))
+        go true false e f = other (ap (λ (t : Bool). v == i && t) f ∙ and-false (v == i)) (inr (λ h. no (sym f ∙ Rattle.std.proofs.lemmas.Bool.eq-eqb k u (sym h))))
         go false t e f = other (ap (λ (s : Bool). s && k == u) e) (inl (λ h. no (sym e ∙ Rattle.std.proofs.lemmas.Bool.eq-eqb v i (sym h))))
 
     pub keyed_same : ((i u : ℕ) → tests i u n ≡ false) → (old : ℕ → ℕ → Option Front) → ((i u : ℕ) → IsNamed ns ls (tests i u) (old i u)) → (i u : ℕ) → IsNamed (n ∷ ns) ls (tests i u) (old i u)

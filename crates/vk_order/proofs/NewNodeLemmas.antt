@@ -13,7 +13,7 @@ use Rattle.vk_model.specs.Sync.Before.{before, direct, IsNumbered}
 use Rattle.vk_model.specs.Sync.Seen.{Access, Read, Write, seen, makes_writes_available, makes_writes_visible, available_by, visible_by, command_mask, host_mask, needs_invalidation, passes, to_host, is_wait, flushes, invalidates}
 use Rattle.vk_model.proofs.Lists.Members.{contains-head, contains-tail}
 use Rattle.vk_model.proofs.Lists.Truths.{no, bool_same}
-use Rattle.vk_model.proofs.Sync.Numbers.{number_below, unique}
+use Rattle.vk_model.proofs.Sync.Numbers.{unique}
 use Rattle.vk_model.proofs.Sync.Paths.{before_of_path}
 use Rattle.vk_order.specs.declared.fronts.Front.{Front}
 use Rattle.vk_order.specs.declared.lines.Line.{Line}
@@ -25,11 +25,11 @@ use Rattle.vk_order.specs.Inner.Kept.{clock_at}
 use Rattle.vk_order.specs.Inner.Fronts.{IsFront, clock_in, row_in}
 use Rattle.vk_order.specs.Frontiers.{IsNewNode}
 use Rattle.vk_order.specs.Inner.Rows.{makes_all_available, makes_all_visible, makes_all_visible_on_host, makes_available, Visible, OnHost, IsAvailable, IsKnown, KnowsOne, IsRowJoin}
-use Rattle.vk_order.proofs.Arrange.{and-true, and-false, or-false}
 use Rattle.vk_order.proofs.ByEdges.{by_last, by_edge}
 use Rattle.vk_order.proofs.KnownRows.{older_of, available_old, available_new}
 use Rattle.vk_order.specs.Inner.Tallies.{lines_of}
 use Rattle.vk_order.proofs.Visibility.{parts_of, seen_by}
+use Rattle.std.proofs.Math.Bool.{and-true, and-false, or-false}
 
 -- ---- acts
 
@@ -122,7 +122,7 @@ module _ (ns : List Node) (n : Node) (numbers : IsNumbered (n ∷ ns)) (cached :
 
   -- one node makes it available, and another or the same visible
   seen_at : (m : Node) → Contains ns m → IsAvailable ns c m → IsTrue (visible_by cached (n ∷ ns) c n n.act k b m) → IsTrue (before (n ∷ ns) m n) → IsTrue (seen cached (n ∷ ns) c n k b)
-  seen_at m hm sent visible reached = go (available_new ns n numbers c m hm sent)
+  seen_at m hm available visible reached = go (available_new ns n numbers c m hm available)
     where
       go : IsAvailable (n ∷ ns) c m → IsTrue (seen cached (n ∷ ns) c n k b)
       go (p, hp, s, way) = seen_by cached (n ∷ ns) c n k b (record {

@@ -12,7 +12,8 @@ use Rattle.vk_model.specs.Sync.Edge.{earlier, by_host, by_stages, by_signal, by_
 use Rattle.vk_order.specs.Lines.{has_transfer, has_host}
 use Rattle.vk_order.specs.Prefixes.{submits, on_queue, to_transfer, to_commands, to_hosts, signals_on, elements_on, elements_to_host, waits_all_on, but_siblings, only, from_transfer, from_host, by_scopes}
 use Rattle.vk_order.proofs.LinePrefixes.{linked, node}
-use Rattle.vk_order.proofs.Arrange.{and-true, and-false, or-false, holds-false, scopes, stages_apart, stages, spread, turned, for_element, for_signal, for_two}
+use Rattle.vk_order.proofs.Arrange.{holds-false, scopes, stages_apart, stages, spread, turned, for_element, for_signal, for_two}
+use Rattle.std.proofs.Math.Bool.{and-true, and-false, or-false}
 
 -- ---- elements
 

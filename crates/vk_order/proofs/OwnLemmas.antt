@@ -4,7 +4,7 @@ use Rattle.std.specs.Prelude.{◌==◌, Contains, max, slice_get, slice_index_or
 use Rattle.std.specs.Option.{option_map, option_map_or}
 use Rattle.std.proofs.lemmas.Bool.{eq-eqb, ne_eqb}
 use Rattle.std.proofs.lemmas.Option.{slice_get_within, slice_get-map}
-use Rattle.vk_model.specs.Sync.Node.{Node, Act, Hosts, Waits, Signals, Runs, Depends}
+use Rattle.vk_model.specs.Sync.Node.{Node, Act}
 use Rattle.vk_model.specs.Sync.Edge.{is_submit}
 use Rattle.vk_model.specs.Sync.Seen.{Access}
 use Rattle.vk_model.proofs.Lists.Truths.{no}
@@ -15,7 +15,7 @@ use Rattle.vk_order.specs.declared.counts.Counts.{Counts}
 use Rattle.vk_order.specs.declared.fronts.Front.{Front}
 use Rattle.vk_order.specs.declared.tallies.LineTally.{LineTally}
 use Rattle.vk_order.specs.PointViews.{act_of}
-use Rattle.vk_order.specs.Lines.{class_of, class_on, same_line, on_line, place}
+use Rattle.vk_order.specs.Lines.{class_of, same_line, on_line, place}
 use Rattle.vk_order.specs.Inner.Clocks.{IsClock}
 use Rattle.vk_order.specs.Inner.Counts.{zero_counts, counts_on, with_available, AreAvailable}
 use Rattle.vk_order.specs.Inner.Kept.{clock_at, IsOwn}
@@ -28,6 +28,7 @@ use Rattle.vk_order.proofs.ClockLemmas.{edges_join, line_same, line_itself, of_o
 use Rattle.vk_order.proofs.KeptLemmas.{found_line, line_class}
 use Rattle.vk_order.proofs.ListLemmas.{place-none}
 use Rattle.vk_order.proofs.KnownRows.{available_row, known_row, visible_row, host_row}
+use Rattle.vk_model.proofs.Lists.Items.{some_same}
 
 -- ---- tallies by their lines
 
@@ -63,11 +64,8 @@ no_place ns ts tallied l none k = place-none ns l k (off_line ns ts tallied l no
 pub count_there : (ns : List Node) (ts : List LineTally) → IsTallied ns ts → (l : Line) (i : ℕ) (t : LineTally) → index_in (lines_of ts) l ≡ Some i → slice_get ts i ≡ Some t → t.count ≡ place ns l (length ns)
 count_there ns ts tallied l i t at here =
     let r = tally_at ts l i at in
-    let same : r.0 ≡ t = inside r.0 t (sym r.1 ∙ here) in
+    let same : r.0 ≡ t = some_same r.0 t (sym r.1 ∙ here) in
     (tallied.each i t here).count ∙ ap (λ (m : Line). place ns m (length ns)) (ap (λ (x : LineTally). x.line) (sym same) ∙ r.2)
-  where
-    inside : (a b : LineTally) → Some a ≡ Some b → a ≡ b
-    inside a b e = cc
 
 -- ---- what is available after it
 
@@ -83,9 +81,6 @@ module _ (ns : List Node) (ts : List LineTally) (tallied : IsTallied ns ts) (que
     short = let lt = slice_get_within ts at t here in let e = lines_length ts in omega arith;
   }
     where
-      inside : (a b : Line) → Some a ≡ Some b → a ≡ b
-      inside a b e = cc
-
       go : (l : Line) (b : Bool) → same_line l line ≡ b → (o : Option ℕ) → index_in (lines_of ts) l ≡ o
           → option_map_or (λ i. slice_index_or own i zero_counts) o zero_counts
           ≡ (if b then with_available (option_map_or (λ i. slice_index_or row i zero_counts) o zero_counts) (place ns l (length ns)) else option_map_or (λ i. slice_index_or row i zero_counts) o zero_counts)
@@ -100,7 +95,7 @@ module _ (ns : List Node) (ts : List LineTally) (tallied : IsTallied ns ts) (que
       go l false e None f = refl
       go l false e (Some i) f =
           counts i ∙ rw (ne_eqb i at (λ eq.
-          let same : l ≡ line = inside l line (sym (found_line (lines_of ts) l i f) ∙ ap (slice_get (lines_of ts)) eq ∙ found_line (lines_of ts) line at found) in
+          let same : l ≡ line = some_same l line (sym (found_line (lines_of ts) l i f) ∙ ap (slice_get (lines_of ts)) eq ∙ found_line (lines_of ts) line at found) in
           no (sym e ∙ ap (same_line l) (sym same) ∙ line_itself l))) refl
 
   -- where the line has no node yet
@@ -132,26 +127,6 @@ module _ (ns : List Node) (ts : List LineTally) (tallied : IsTallied ns ts) (que
   }
 
 -- ---- which line is made available
-
-pub host_available : (q : ℕ) (a : Act) → is_submit a ≡ true → (l : Line) → same_line l OfHost ≡ makes_line_available q a l
-host_available q (Hosts x) e OfHost = sym e
-host_available q (Hosts x) e (OfCommands r) = refl
-host_available q (Hosts x) e (OfSignals r) = refl
-host_available q (Hosts x) e (OfElements r t h) = refl
-host_available q (Hosts x) e (OfSets r) = refl
-host_available q (Hosts x) e (OfWaits r t h b) = refl
-host_available q (Waits s) e l = no e
-host_available q (Signals s) e l = no e
-host_available q (Runs c) e l = no e
-host_available q (Depends r x) e l = no e
-
-pub commands_available : (q : ℕ) (a : Act) → is_submit a ≡ false → makes_queue_available a ≡ true → (l : Line) → same_line l (OfCommands q) ≡ makes_line_available q a l
-commands_available q a s e OfHost = sym s
-commands_available q a s e (OfCommands r) = rw e refl
-commands_available q a s e (OfSignals r) = refl
-commands_available q a s e (OfElements r t h) = refl
-commands_available q a s e (OfSets r) = refl
-commands_available q a s e (OfWaits r t h b) = refl
 
 pub none_available : (q : ℕ) (a : Act) → is_submit a ≡ false → makes_queue_available a ≡ false → (l : Line) → false ≡ makes_line_available q a l
 none_available q a s e OfHost = sym s
@@ -188,8 +163,8 @@ module _ (ns : List Node) (ls : List Line) (n : Node) (row : Row) (known own : F
   queue_is : n.point.queue ≡ row.point.queue
   queue_is = ap (λ (p : Rattle.vk_model.specs.Trace.Point.Point). p.queue) coming.point
 
-  sent : IsRow Available (n ∷ ns) n (clock_at ls (row_in Available own))
-  sent = available_row ns n coming.numbers (clock_at ls (row_in Available known)) (clock_at ls (row_in Available own)) (coming.front.rows Available).join
+  available_there : IsRow Available (n ∷ ns) n (clock_at ls (row_in Available own))
+  available_there = available_row ns n coming.numbers (clock_at ls (row_in Available known)) (clock_at ls (row_in Available own)) (coming.front.rows Available).join
       (λ l. available.counts l ∙ ap (λ (b : Bool). if b then place ns l (length ns) else clock_at ls (row_in Available known) l)
       (ap (λ (a : Act). makes_line_available row.point.queue a l) (sym coming.act) ∙ ap (λ (q : ℕ). makes_line_available q n.act l) (sym queue_is)))
 
@@ -200,7 +175,7 @@ module _ (ns : List Node) (ls : List Line) (n : Node) (row : Row) (known own : F
   heard l = if is_of_barriers l then clock_at ls (clock_in known) l else clock_at ls (row_in Available own) l
 
   heard_there : IsKnownRow (n ∷ ns) n (λ l. if is_of_barriers l then clock_at ls (clock_in known) l else clock_at ls (row_in Available own) l)
-  heard_there = known_row ns n coming.numbers (clock_at ls (clock_in known)) (clock_at ls (row_in Available own)) clock_there sent
+  heard_there = known_row ns n coming.numbers (clock_at ls (clock_in known)) (clock_at ls (row_in Available own)) clock_there available_there
 
   seen_there : (k : Access) → IsRow (Visible k) (n ∷ ns) n (clock_at ls (row_in (Visible k) own))
   seen_there k = visible_row ns n coming.numbers (λ l. heard l) heard_there k (clock_at ls (row_in (Visible k) own))
@@ -216,7 +191,7 @@ module _ (ns : List Node) (ls : List Line) (n : Node) (row : Row) (known own : F
   shorter (OnHost k) = (hosted k).short
 
   rows_there : (g : Knowledge) → IsRow g (n ∷ ns) n (clock_at ls (row_in g own))
-  rows_there Available = sent
+  rows_there Available = available_there
   rows_there (Visible k) = seen_there k
   rows_there (OnHost k) = on_host k
 

@@ -31,9 +31,9 @@ use Rattle.vk_order.proofs.LinePrefixes.{node, linked, of_linked, to_linked, com
 use Rattle.vk_order.proofs.ClockLemmas.{line_same, line_itself, place-grows, place-less, edges_join}
 use Rattle.std.proofs.lemmas.List.{take_all, length-drop}
 use Rattle.std.proofs.lemmas.Option.{slice_get_within, slice_get-get_or}
-use Rattle.vk_order.proofs.KeptLemmas.{push_cases}
 use Rattle.vk_order.proofs.OwnLemmas.{none_available}
 use Rattle.vk_order.proofs.KnownRows.{takes, command_takes, available_row, known_row, at_old, at_new, unheard, heard_old, heard_new}
+use Rattle.vk_model.proofs.Lists.Items.{push_cases, some_same}
 
 -- ---- which commands lead to a part
 
@@ -78,15 +78,12 @@ module _ (ns : List Node) (numbers : IsNumbered ns) (ls : List Line) (w m : Node
       let taken : (w.point.queue == x.queue && from) ≡ true = sym (takes_part w.point.queue) ∙ sym (command_takes ns w.number w.point of.0 m) ∙ sym (ap (λ (a : Act). linked ns (node w.number w.point a) m) of.1) ∙ to_linked ns w m parts.1 in
       let both = and_parts (w.point.queue == x.queue) from taken in
       let queue : w.point.queue ≡ x.queue = eqb-true w.point.queue x.queue both.0 in
-      let is : l ≡ OfCommands x.queue = inside l (OfCommands x.queue) (sym on ∙ own ∙ ap (λ (q : ℕ). Some (OfCommands q)) queue) in
+      let is : l ≡ OfCommands x.queue = some_same l (OfCommands x.queue) (sym on ∙ own ∙ ap (λ (q : ℕ). Some (OfCommands q)) queue) in
       let up = edge_forward ns w m parts.1 in
       let less = place-less ns numbers (OfCommands x.queue) w m.number hw (on ∙ ap Some is) up in
       let low : i < x.earlier = (let b = part.earlier in let c : place ns (OfCommands x.queue) w.number ≡ i = ap (λ (k : Line). place ns k w.number) (sym is) ∙ at in omega arith) in
       and_from (same_line l (OfCommands x.queue) && nat_lt i x.earlier) from
       (and_from (same_line l (OfCommands x.queue)) (nat_lt i x.earlier) (ap (λ (k : Line). same_line k (OfCommands x.queue)) is ∙ line_itself (OfCommands x.queue)) (lt-ltb i x.earlier low)) both.1
-    where
-      inside : (a b : Line) → Some a ≡ Some b → a ≡ b
-      inside a b e = cc
 
   pub part_marks : (cached : Byte → Bool) (b : Byte) (f a : Bool) → f ≡ (same_line l (OfCommands x.queue) && nat_lt i x.earlier && has_transfer (dependency_of x.element).source_stages.0)
       → a ≡ (not (is_acquire x.queue x.element) && has_some (dependency_of x.element).source_accesses.0 (command_mask Write) && covers x.element b)
@@ -147,14 +144,18 @@ part_element (element.Memory d) id h = absurd cc
 part_element (element.Buffer e) id h = (refl, refl)
 part_element (element.Image e) id h = (refl, refl)
 
+-- the parts that are searched, of those that are kept
+pub from_slice : {from : ℕ} {all some kept : List Part} → all ≡ kept → AreInOrder kept → (AreInOrder all → AreFrom from all some) → AreFrom from kept some
+from_slice {from} {all} {some} {kept} e ordered is = subst (λ (l : List Part). AreFrom from l some) e (is (subst (λ (l : List Part). AreInOrder l) (sym e) ordered))
+
 -- one that comes next
 pub part_new : (ns : List Node) (n : Node) (ls : List Line) (x : Part) (id : ℕ) (clock row : List ℕ) → IsNumbered (n ∷ ns) → n.act ≡ Depends Barrier x.element → named_by x.element ≡ Some id → x.number ≡ n.number → x.queue ≡ n.point.queue → x.line ≡ class_on n.point.queue n.act
     → x.place ≡ place ns x.line (length ns) → x.earlier ≡ place ns (OfCommands x.queue) (length ns) → IsMerged ls clock row x.heard.items → IsKeptJoin ns ls (λ k. edge ns k n) clock → IsKeptRow Available ns ls (λ k. edge ns k n) row → IsPart (n ∷ ns) ls n x
-part_new ns n ls x id clock row numbers act named number queue line at earlier merged kept sent =
+part_new ns n ls x id clock row numbers act named number queue line at earlier merged kept kept_available =
     let of = part_element x.element id named in
     let quiet : makes_queue_available n.act ≡ false = ap makes_queue_available act ∙ of.1 in
     let device : is_submit n.act ≡ false = ap is_submit act in
-    let available : IsRow Available (n ∷ ns) n (clock_at ls row) = available_row ns n numbers (clock_at ls row) (clock_at ls row) sent.join (λ l. ap (λ (t : Bool). if t then place ns l (length ns) else clock_at ls row l) (none_available n.point.queue n.act device quiet l)) in
+    let available : IsRow Available (n ∷ ns) n (clock_at ls row) = available_row ns n numbers (clock_at ls row) (clock_at ls row) kept_available.join (λ l. ap (λ (t : Bool). if t then place ns l (length ns) else clock_at ls row l) (none_available n.point.queue n.act device quiet l)) in
     record {
       there = contains-head n ns;
       act = act;
@@ -235,11 +236,8 @@ parts_more ns n ls p q id x numbers is part here others are = record {
 
     new : (i : ℕ) (m : Node) → n ≡ m → part_of m.act ≡ Some i → (y : Part) × Contains (parts_at q i) y × IsPart (n ∷ ns) ls m y
     new i m e named =
-        let same : id ≡ i = inside id i (sym is ∙ ap (λ (z : Node). part_of z.act) e ∙ named) in
+        let same : id ≡ i = some_same id i (sym is ∙ ap (λ (z : Node). part_of z.act) e ∙ named) in
         (x, subst (λ (j : ℕ). Contains (parts_at q j) x) same (subst (λ (l : List Part). Contains l x) (sym here) (Contains-append_right (parts_at p id) (x ∷ []) x (contains-head x []))), subst (λ (z : Node). IsPart (n ∷ ns) ls z x) e part)
-      where
-        inside : (a b : ℕ) → Some a ≡ Some b → a ≡ b
-        inside a b f = cc
 
 -- what is kept says the same over more lines
 pub parts_longer : (ns : List Node) (ls more : List Line) (p : Parts) → IsLonger ls more → AreParts ns ls p → AreParts ns more p

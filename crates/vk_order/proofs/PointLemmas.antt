@@ -2,7 +2,6 @@
 use Rattle.std.proofs.Common.{◌≡◌, ℕ, zero, suc, ◌+◌, ◌<◌, List, [], ◌∷◌, length, map, Bool, true, false, ◌&&◌, Some, refl, ap, sym, ◌∙◌, arith}
 use Rattle.std.specs.Prelude.{Contains, slice_get, option_map}
 use Rattle.std.specs.List.{enumerate_from}
-use Rattle.std.proofs.lemmas.Bool.{eq-eqb}
 use Rattle.std.proofs.lemmas.Option.{slice_get-map}
 use Rattle.std.proofs.Math.Bool.{and-false}
 use Rattle.vk_model.specs.declared.command.Cmd.{Cmd}
@@ -19,8 +18,9 @@ use Rattle.vk_order.specs.Queries.{IsNew}
 use Rattle.vk_order.specs.Inner.Tallies.{CanFollow}
 use Rattle.vk_model.proofs.Lists.Members.{place_has}
 use Rattle.vk_order.proofs.Arrange.{holds-false}
-use Rattle.vk_order.proofs.ElementPlaces.{element_of}
+use Rattle.vk_order.proofs.ElementPlaces.{element_of, same_itself}
 use Rattle.vk_order.proofs.PlaceLemmas.{apart_from}
+use Rattle.vk_model.proofs.Lists.Items.{some_same}
 
 -- ---- acts of one point
 
@@ -80,9 +80,6 @@ element_waits (Waits s) h = absurd cc
 element_waits (Signals s) h = absurd cc
 element_waits (Runs c) h = absurd cc
 
-same_itself : (p : spec.Point) → same_place p p ≡ true
-same_itself p = rw (eq-eqb p.entry p.entry refl, eq-eqb p.batch p.batch refl, eq-eqb p.place p.place refl) refl
-
 no_links : (ns : List Node) (i j : ℕ) (p : spec.Point) (a b : Act) → AreQuiet a b → edge ns (record { number = i; point = p; act = a }) (record { number = j; point = p; act = b }) ≡ false
 unfolding edge
 no_links ns i j p (Depends r x) (Depends s y) quiet = simp (same_itself p, quiet.unpaired, and-false, holds-false)
@@ -135,11 +132,8 @@ module _ (ns : List Node) (fresh : List Row) (p : Point) (points : (i : ℕ) (r 
 pub one_follows : (ns : List Node) (row : Row) → acts (action_of row.point.action) ≡ act_of row.act ∷ [] → IsNew (point_of row.point) ns → CanFollow ns (row ∷ [])
 one_follows ns row are new = can_follow ns (row ∷ []) row.point points (sym are) new
   where
-    inside : (q r : Row) → Some q ≡ Some r → q ≡ r
-    inside q r e = cc
-
     points : (i : ℕ) (r : Row) → slice_get (row ∷ []) i ≡ Some r → r.point ≡ row.point
-    points zero r e = ap (λ (x : Row). x.point) (sym (inside row r e))
+    points zero r e = ap (λ (x : Row). x.point) (sym (some_same row r e))
     points (suc i) r e = absurd cc
 
 -- a row that is no element, alone

@@ -1,5 +1,5 @@
 -- What an access sees, by what rows say.
-use Rattle.std.proofs.Common.{◌≡◌, ◌⊎◌, inl, inr, ⊎_elim, ℕ, ◌<◌, ◌≤◌, List, [], ◌∷◌, length, get_or, Bool, true, false, not, ◌&&◌, ◌||◌, IsTrue, Option, Some, None, refl, ap, sym, ◌∙◌, subst, arith}
+use Rattle.std.proofs.Common.{◌≡◌, ◌⊎◌, ⊎_elim, ℕ, ◌<◌, List, [], get_or, Bool, true, false, not, ◌&&◌, ◌||◌, IsTrue, Option, Some, None, refl, ap, sym, ◌∙◌, subst, arith}
 use Rattle.std.specs.Prelude.{nat_lt, Contains, slice_get}
 use Rattle.std.specs.List.{list_any}
 use Rattle.std.proofs.lemmas.Bool.{lt-ltb, ltb-true, and_parts, and_from, or_left, or_right, cases_lt}
@@ -18,13 +18,14 @@ use Rattle.vk_order.specs.declared.acts.Row.{Row}
 use Rattle.vk_order.specs.PointViews.{act_of, node_of, nodes_after}
 use Rattle.vk_order.specs.Edges.{unsignaled, makes_available, makes_visible, made_available_by}
 use Rattle.vk_order.specs.Inner.Availability.{ends_by, is_after, IsUntil, IsLastInvalidation, IsFrom, IsInTime}
-use Rattle.vk_order.proofs.Arrange.{or-false, holds-false}
+use Rattle.vk_order.proofs.Arrange.{holds-false}
 use Rattle.vk_order.proofs.LinePrefixes.{node, host_edge}
 use Rattle.vk_order.proofs.RowLemmas.{numbered_after}
 use Rattle.vk_order.proofs.EdgeLemmas.{edge-at, first_nodes}
 use Rattle.vk_order.proofs.NamedLemmas.{node_there}
 use Rattle.vk_order.proofs.BeforeLemmas.{node_row}
 use Rattle.vk_order.proofs.Visibility.{parts_of, seen_by}
+use Rattle.std.proofs.Math.Bool.{or-false, and-true}
 
 -- ---- acts
 
@@ -158,30 +159,26 @@ module _ (rows : List Row) where
 
     -- ---- the whole
 
-    pub seen_way : (sent served : Node → Bool) → ((p : Node) → Contains all p → sent p ≡ available_by cached all w w.act b p) → ((q : Node) → Contains all q → served q ≡ visible_by cached all w a a.act k b q)
-        → list_any (λ n. served n && is_after all sent n) all ≡ seen cached all w a k b
-    seen_way sent served available_as_well served_same = bool_same (list_any (λ n. served n && is_after all sent n) all) (seen cached all w a k b) on back
+    pub seen_way : (is_available served : Node → Bool) → ((p : Node) → Contains all p → is_available p ≡ available_by cached all w w.act b p) → ((q : Node) → Contains all q → served q ≡ visible_by cached all w a a.act k b q)
+        → list_any (λ n. served n && is_after all is_available n) all ≡ seen cached all w a k b
+    seen_way is_available served available_as_well served_same = bool_same (list_any (λ n. served n && is_after all is_available n) all) (seen cached all w a k b) on back
       where
-        on : list_any (λ n. served n && is_after all sent n) all ≡ true → IsTrue (seen cached all w a k b)
+        on : list_any (λ n. served n && is_after all is_available n) all ≡ true → IsTrue (seen cached all w a k b)
         on h =
-            let q = some_member (λ n. served n && is_after all sent n) all h in
-            let parts = and_parts (served q.0) (is_after all sent q.0) q.2 in
-            let p = some_member (λ p. sent p && (same_node p q.0 || before all p q.0)) all parts.1 in
-            let two = and_parts (sent p.0) (same_node p.0 q.0 || before all p.0 q.0) p.2 in
+            let q = some_member (λ n. served n && is_after all is_available n) all h in
+            let parts = and_parts (served q.0) (is_after all is_available q.0) q.2 in
+            let p = some_member (λ p. is_available p && (same_node p q.0 || before all p q.0)) all parts.1 in
+            let two = and_parts (is_available p.0) (same_node p.0 q.0 || before all p.0 q.0) p.2 in
             let visible : IsTrue (visible_by cached all w a a.act k b q.0) = sym (served_same q.0 q.1) ∙ parts.0 in
             seen_by cached all w a k b (record { p = p.0; q = q.0; has_p = p.1; has_q = q.1; available = sym (available_as_well p.0 p.1) ∙ two.0; between = two.1; visible = visible; reached = visible_reaches a.act q.0 q.1 visible })
 
-        back : IsTrue (seen cached all w a k b) → list_any (λ n. served n && is_after all sent n) all ≡ true
+        back : IsTrue (seen cached all w a k b) → list_any (λ n. served n && is_after all is_available n) all ≡ true
         back h =
             let s = parts_of cached all w a k b h in
-            member_passes (λ n. served n && is_after all sent n) all s.q s.has_q (and_from (served s.q) (is_after all sent s.q) (served_same s.q s.has_q ∙ s.visible)
-            (member_passes (λ p. sent p && (same_node p s.q || before all p s.q)) all s.p s.has_p (and_from (sent s.p) (same_node s.p s.q || before all s.p s.q) (available_as_well s.p s.has_p ∙ s.available) s.between)))
+            member_passes (λ n. served n && is_after all is_available n) all s.q s.has_q (and_from (served s.q) (is_after all is_available s.q) (served_same s.q s.has_q ∙ s.visible)
+            (member_passes (λ p. is_available p && (same_node p s.q || before all p s.q)) all s.p s.has_p (and_from (is_available s.p) (same_node s.p s.q || before all s.p s.q) (available_as_well s.p s.has_p ∙ s.available) s.between)))
 
     -- ---- which nodes serve a host access
-
-    and_true : (x : Bool) → (x && true) ≡ x
-    and_true true = refl
-    and_true false = refl
 
     not_so : (x : Bool) → (x ≡ true → ⊥) → x ≡ false
     not_so true h = absurd (h refl)
@@ -190,7 +187,7 @@ module _ (rows : List Row) where
     until_plain : (until : Option ℕ) → needs_invalidation cached all k b ≡ false → until ≡ Some a.number → IsUntil rows until in_time
     until_plain until none e = subst (λ (o : Option ℕ). IsUntil rows o in_time) (sym e)
         (let own = node_row rows a a.number ca refl in
-        (own.0, own.1, λ q cq. ap (λ (t : Bool). before all q a && (not t || passes cached all (λ f. invalidates f b) q a)) none ∙ and_true (before all q a) ∙ ap (before all q) own.2))
+        (own.0, own.1, λ q cq. ap (λ (t : Bool). before all q a && (not t || passes cached all (λ f. invalidates f b) q a)) none ∙ and-true (before all q a) ∙ ap (before all q) own.2))
 
     -- a node that an invalidation before the access follows
     invalidated : (q : Node) → in_time q ≡ true → needs_invalidation cached all k b ≡ true → (f : Node) × Contains all f × IsTrue (invalidates f.act b) × IsTrue (before all q f) × (f.number < a.number)

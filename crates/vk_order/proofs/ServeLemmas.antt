@@ -28,7 +28,6 @@ use Rattle.vk_order.specs.Inner.Rows.{makes_all_available, makes_available, Visi
 use Rattle.vk_order.specs.Inner.Fronts.{row_in}
 use Rattle.vk_order.specs.Inner.Parts.{IsPart, asked_of, opens, Serves}
 use Rattle.vk_order.specs.Frontiers.{IsNewNode}
-use Rattle.vk_order.proofs.Arrange.{or-false}
 use Rattle.vk_order.proofs.LinePrefixes.{node}
 use Rattle.vk_order.proofs.ClockLemmas.{line_same, line_itself, place-less}
 use Rattle.vk_order.proofs.KeptLemmas.{line_class}
@@ -37,6 +36,8 @@ use Rattle.vk_order.proofs.PlaceLemmas.{apart_from}
 use Rattle.vk_order.proofs.NewNodeLemmas.{asked_of_host}
 use Rattle.vk_order.specs.Inner.Tallies.{lines_of}
 use Rattle.vk_order.proofs.LimitedLemmas.{seen_by_command, seen_by_host}
+use Rattle.vk_model.proofs.Lists.Items.{some_same}
+use Rattle.std.proofs.Math.Bool.{or-false}
 
 -- ---- the law, for commands and the host at once
 
@@ -177,13 +178,6 @@ module _ (ns : List Node) (n : Node) (numbers : IsNumbered (n ∷ ns)) (ls : Lis
       ∙ ap (λ (t : Bool). edge ns q n && t) (visible_part cached (command_mask k) b)
       ∙ ap (λ (a : Act). opens cached ns n a k b q) (sym is)
 
-  pub open_to_host : (cached : Byte → Bool) (k : Access) (b : Byte) (y : Entry) → n.act ≡ Hosts y
-      → (before (n ∷ ns) q n && (to_host (Depends Barrier x.element) && (not (is_release x.queue x.element) && has_some (dependency_of x.element).destination_accesses.0 (host_mask k) && covers x.element b))) ≡ opens cached ns n n.act k b q
-  open_to_host cached k b y is =
-      ap (λ (t : Bool). before (n ∷ ns) q n && (to_host (Depends Barrier x.element) && t)) (visible_part cached (host_mask k) b)
-      ∙ ap (λ (a : Act). before (n ∷ ns) q n && (to_host a && makes_writes_visible cached ns (host_mask k) b q q.act)) (sym part.act)
-      ∙ ap (λ (a : Act). opens cached ns n a k b q) (sym is)
-
 -- ---- what is known at a part
 
 module _ (ns : List Node) (numbers : IsNumbered ns) (ls : List Line) (q : Node) (x : Part) (part : IsPart ns ls q x) (m : Node) (l : Line) (i : ℕ) (hm : Contains ns m) (on : line_of m ≡ Some l) (at : place ns l m.number ≡ i) where
@@ -211,13 +205,10 @@ module _ (ns : List Node) (numbers : IsNumbered ns) (ls : List Line) (q : Node) 
     back,
   )
     where
-      inside : (a b : Line) → Some a ≡ Some b → a ≡ b
-      inside a b e = cc
-
       back : Reaches ns m q → IsTrue (nat_lt i (clock_at ls x.heard.items l) || same_line x.line l && x.place == i)
       back (inl known) = or_left (nat_lt i (clock_at ls x.heard.items l)) (same_line x.line l && x.place == i) (lt-ltb i (clock_at ls x.heard.items l) (let lt = (part.heard.counts l m hm on).0 known in omega arith))
       back (inr (same, lim)) =
-          let is : x.line ≡ l = inside x.line l (sym part.line ∙ ap line_of (sym same) ∙ on) in
+          let is : x.line ≡ l = some_same x.line l (sym part.line ∙ ap line_of (sym same) ∙ on) in
           let here : x.place ≡ i = part.at ∙ ap (λ (k : Line). place ns k q.number) is ∙ ap (λ (y : Node). place ns l y.number) (sym same) ∙ at in
           or_right (nat_lt i (clock_at ls x.heard.items l)) (same_line x.line l && x.place == i)
           (and_from (same_line x.line l) (x.place == i) (ap (λ (k : Line). same_line k l) is ∙ line_itself l) (eq-eqb x.place i here))
@@ -245,12 +236,6 @@ module _ (s : NewNode) (ns : List Node) (ls : List Line) (n q : Node) (x : Part)
       let of = command_of n.act any (sym new_node.is_host ∙ device) in
       ap (λ (t : Bool). t && v) (is_e ∙ ap (λ (i : ℕ). ends_in_transfer i x.line) new_node.queue) ∙ ap (λ (t : Bool). ends_in_transfer n.point.queue x.line && t) is_v
       ∙ open_to_command ns n new_node.numbers ls q x part cached k b of.0 of.1
-
-  pub new_host_entry : s.is_host ≡ true → (f v : Bool) → f ≡ before (n ∷ ns) q n
-      → v ≡ (to_host (Depends Barrier x.element) && (not (is_release x.queue x.element) && has_some (dependency_of x.element).destination_accesses.0 (host_mask k) && covers x.element b)) → (f && v) ≡ opens cached ns n n.act k b q
-  new_host_entry host f v is_f is_v =
-      let of = host_of n.act (sym new_node.is_host ∙ host) in
-      ap (λ (t : Bool). t && v) is_f ∙ ap (λ (t : Bool). before (n ∷ ns) q n && t) is_v ∙ open_to_host ns n new_node.numbers ls q x part cached k b of.0 of.1
 
 pub answered_any : (cached : Byte → Bool) (a : Act) (k : Access) (b : Byte) → IsTrue (is_answered cached a k b) → by_any a ≡ true
 answered_any cached (Runs c) k b h = refl

@@ -1,9 +1,9 @@
 -- To what an element of a set leads.
-use Rattle.std.proofs.Common.{◌≡◌, ◌⊎◌, inl, inr, ⊎_elim, ℕ, ◌+◌, ◌<◌, ◌≤◌, List, [], length, get_or, Bool, true, false, ◌&&◌, ◌||◌, IsTrue, Some, refl, ap, sym, ◌∙◌, subst, arith}
+use Rattle.std.proofs.Common.{◌≡◌, ◌⊎◌, inl, inr, ⊎_elim, ℕ, ◌<◌, ◌≤◌, List, [], length, get_or, Bool, true, false, ◌&&◌, ◌||◌, IsTrue, Some, refl, ap, sym, ◌∙◌, subst, arith}
 use Rattle.std.specs.Prelude.{◌==◌, nat_lt, Contains, slice_get}
-use Rattle.std.proofs.lemmas.Bool.{lt-ltb, ltb-true, eqb-true, eq-eqb, and_parts, and_from, or_left, or_right}
+use Rattle.std.proofs.lemmas.Bool.{lt-ltb, eqb-true, eq-eqb, and_parts, and_from, or_left, or_right}
 use Rattle.std.proofs.lemmas.Option.{slice_get_within, slice_get-get_or, get_or_from_slice_get}
-use Rattle.std.proofs.Math.Bool.{and-false}
+use Rattle.std.proofs.Math.Bool.{and-false, or-false}
 use Rattle.vk_model.specs.Sync.Node.{Node, Act, Hosts, Waits, Signals, Runs, Depends, Barrier, SetOf, AwaitOf}
 use Rattle.vk_model.specs.Sync.Edge.{edge, by_semaphore, signaled_by}
 use Rattle.vk_model.specs.Sync.Before.{before, IsNumbered}
@@ -15,11 +15,11 @@ use Rattle.vk_order.specs.PointViews.{act_of, node_of, nodes_after}
 use Rattle.vk_order.specs.Lines.{line_of, class_of}
 use Rattle.vk_order.specs.Edges.{unsignaled}
 use Rattle.vk_order.specs.Inner.Kept.{IsSet}
-use Rattle.vk_order.proofs.Arrange.{or-false}
 use Rattle.vk_order.proofs.RowLemmas.{numbered_after, length-nodes_after}
 use Rattle.vk_order.proofs.EdgeLemmas.{edge-at, first_nodes, row_is}
 use Rattle.vk_order.proofs.NamedLemmas.{node_there}
 use Rattle.vk_order.proofs.BeforeLemmas.{by_first, from_first}
+use Rattle.vk_model.proofs.Lists.Items.{some_same}
 
 set_to : (m : Node) (v i : ℕ) (e : Rattle.vk_model.specs.declared.command.Element.Element) → m.act ≡ Depends (SetOf v i) e → (j : ℕ) (q : Rattle.vk_model.specs.Trace.Point.Point) (a : Act) → unsignaled m (record { number = j; point = q; act = a }) ≡ true → Rattle.vk_order.specs.Lines.line_on q.queue a ≡ Some (Rattle.vk_order.specs.Lines.class_on q.queue a)
 set_to m v i e is j q (Hosts x) h = refl
@@ -64,10 +64,7 @@ module _ (rows : List Row) (first : ℕ) (q : Row) (at : slice_get rows first �
       (node_of k x, node_there rows k x at_k, set_edge k x at_k ∙ rw (lt-ltb first k lt, leads) refl, ⊎_elim (λ e. inl (same k second x r at_k at_n e)) (λ h. inr h) way)
     where
       same : (k second : ℕ) (x r : Row) → slice_get rows k ≡ Some x → slice_get rows second ≡ Some r → k ≡ second → node_of k x ≡ node_of second r
-      same k second x r e f is = let a : Some x ≡ Some r = sym e ∙ ap (slice_get rows) is ∙ f in rw is (ap (node_of second) (inside x r a))
-        where
-          inside : (x y : Row) → Some x ≡ Some y → x ≡ y
-          inside x y h = cc
+      same k second x r e f is = let a : Some x ≡ Some r = sym e ∙ ap (slice_get rows) is ∙ f in rw is (ap (node_of second) (some_same x r a))
 
   -- whether row k is the first step of a path
   abbrev pub is_step : ℕ → Row → ℕ → Row → Bool

@@ -18,7 +18,8 @@ use Rattle.vk_order.specs.Inner.Fronts.{clock_in, IsFront}
 use Rattle.vk_order.proofs.RowLemmas.{nodes_after-append, length-nodes_after, numbered_after}
 use Rattle.vk_order.proofs.NamedLemmas.{node_there}
 use Rattle.vk_order.proofs.ClockLemmas.{clock_stays, edges_join, place-older}
-use Rattle.vk_order.proofs.KeptLemmas.{clock_as, push_cases, line_class}
+use Rattle.vk_order.proofs.KeptLemmas.{clock_as, line_class}
+use Rattle.vk_model.proofs.Lists.Items.{push_cases}
 
 pub stamped_longer : (rows : List Row) (stamps : List Stamp) (ls more : List Line) → IsLonger ls more → IsStamped rows stamps ls → IsStamped rows stamps more
 stamped_longer rows stamps ls more longer is = record {

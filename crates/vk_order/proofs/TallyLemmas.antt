@@ -26,14 +26,16 @@ use Rattle.vk_order.specs.Inner.Places.{index_in}
 use Rattle.vk_order.specs.Inner.Fronts.{clock_in, row_in, IsFront, IsNamed}
 use Rattle.vk_order.specs.Inner.Names.{IsNames}
 use Rattle.vk_order.specs.Inner.Tallies.{lines_of, IsLineTally, IsTallied, IsComing}
-use Rattle.vk_order.proofs.Arrange.{or-false, and-false}
 use Rattle.vk_order.proofs.ClockLemmas.{line_itself, line_same, is_on, of_on, lines_whole, place-own}
-use Rattle.vk_order.proofs.KeptLemmas.{join_as, any-step, push_cases, found_line, line_class, its_line, no_line_of, place_within}
+use Rattle.vk_order.proofs.KeptLemmas.{join_as, found_line, line_class, its_line, no_line_of, place_within}
 use Rattle.vk_order.proofs.ListLemmas.{clock_push, index_same, now_listed, still_listed}
 use Rattle.vk_order.proofs.RowJoins.{rows_as}
 use Rattle.vk_order.proofs.FrontLemmas.{front_same, front_stays}
 use Rattle.vk_order.proofs.OwnLemmas.{lines_length, tally_at, none_there, no_place, count_there, index_low, class_coming}
 use Rattle.vk_order.proofs.PlaceLemmas.{place-top}
+use Rattle.vk_model.proofs.Lists.Items.{push_cases, some_same}
+use Rattle.std.proofs.lemmas.List.Folds.{list_any_more}
+use Rattle.std.proofs.Math.Bool.{or-false, and-false}
 
 -- ---- the joins of the lines that pass a test
 
@@ -47,7 +49,7 @@ Found ts names row x = (ns : List Node) (j : ℕ) → IsTallied ns ts → IsName
 
 pub none_past : (ts : List LineTally) (passes : Line → Bool) (i : ℕ) (d : LineTally) (k : Node) → i < length ts → passes (get_or ts i d).line ≡ false → of_first passes ts i k ≡ false → of_first passes ts (i + 1) k ≡ false
 none_past ts passes i d k lt is none =
-    any-step (λ t. passes t.line && same_line t.line (class_of k)) ts i d lt ∙ ap (λ (b : Bool). of_first passes ts i k || (b && same_line (get_or ts i d).line (class_of k))) is ∙ or-false (of_first passes ts i k) ∙ none
+    list_any_more (λ t. passes t.line && same_line t.line (class_of k)) ts i d lt ∙ ap (λ (b : Bool). of_first passes ts i k || (b && same_line (get_or ts i d).line (class_of k))) is ∙ or-false (of_first passes ts i k) ∙ none
 
 module _ (ns : List Node) (ts : List LineTally) (passes : Line → Bool) where
   pub front_on : (i : ℕ) (d : LineTally) (x : Front) → i < length ts → passes (get_or ts i d).line ≡ true
@@ -55,12 +57,12 @@ module _ (ns : List Node) (ts : List LineTally) (passes : Line → Bool) where
   front_on i d x lt is front =
       let t : LineTally = get_or ts i d in
       front_same ns (lines_of ts) (λ k. of_first passes ts i k || same_line t.line (class_of k)) (of_first passes ts (i + 1)) x
-      (λ k c. sym (any-step (λ t. passes t.line && same_line t.line (class_of k)) ts i d lt ∙ ap (λ (b : Bool). of_first passes ts i k || (b && same_line t.line (class_of k))) is)) front
+      (λ k c. sym (list_any_more (λ t. passes t.line && same_line t.line (class_of k)) ts i d lt ∙ ap (λ (b : Bool). of_first passes ts i k || (b && same_line t.line (class_of k))) is)) front
 
   pub front_past : (i : ℕ) (d : LineTally) (x : Front) → i < length ts → passes (get_or ts i d).line ≡ false → IsFront ns (lines_of ts) (of_first passes ts i) x → IsFront ns (lines_of ts) (of_first passes ts (i + 1)) x
   front_past i d x lt is front =
       front_same ns (lines_of ts) (of_first passes ts i) (of_first passes ts (i + 1)) x
-      (λ k c. sym (any-step (λ t. passes t.line && same_line t.line (class_of k)) ts i d lt ∙ ap (λ (b : Bool). of_first passes ts i k || (b && same_line (get_or ts i d).line (class_of k))) is ∙ or-false (of_first passes ts i k))) front
+      (λ k c. sym (list_any_more (λ t. passes t.line && same_line t.line (class_of k)) ts i d lt ∙ ap (λ (b : Bool). of_first passes ts i k || (b && same_line (get_or ts i d).line (class_of k))) is ∙ or-false (of_first passes ts i k))) front
 
   pub front_all : (i : ℕ) (x : Front) → IsTallied ns ts → length ts ≤ i → IsFront ns (lines_of ts) (of_first passes ts i) x → IsFront ns (lines_of ts) (λ k. passes (class_of k)) x
   front_all i x tallied le front = front_same ns (lines_of ts) (of_first passes ts i) (λ k. passes (class_of k)) x same front
@@ -136,10 +138,7 @@ pub now_there : (ts : List LineTally) (t : LineTally) → index_in (lines_of ts)
 now_there ts t none = rw (map-append (λ (x : LineTally). x.line) ts (t ∷ [])) (now_listed (lines_of ts) t.line none ∙ ap Some (lines_length ts))
 
 pub line_there : (ts : List LineTally) (line : Line) (at : ℕ) (t : LineTally) → index_in (lines_of ts) line ≡ Some at → slice_get ts at ≡ Some t → t.line ≡ line
-line_there ts line at t found here = let r = tally_at ts line at found in ap (λ (x : LineTally). x.line) (inside t r.0 (sym here ∙ r.1)) ∙ r.2
-  where
-    inside : (a b : LineTally) → Some a ≡ Some b → a ≡ b
-    inside a b e = cc
+line_there ts line at t found here = let r = tally_at ts line at found in ap (λ (x : LineTally). x.line) (some_same t r.0 (sym here ∙ r.1)) ∙ r.2
 
 -- ---- one node more
 
@@ -154,10 +153,7 @@ pub lines-set : (ts : List LineTally) (line : Line) (at : ℕ) (u : LineTally) �
 lines-set ts line at u found is =
     let low : at < length ts = index_low ts line at found in
     let that : Some (get_or ts at u).line ≡ Some line = sym (ap (option_map (λ t. t.line)) (slice_get-get_or ts at u low)) ∙ sym (slice_get-map (λ t. t.line) ts at) ∙ found_line (lines_of ts) line at found in
-    map-set_same (λ t. t.line) ts at u u (is ∙ sym (inside (get_or ts at u).line line that))
-  where
-    inside : (l m : Line) → Some l ≡ Some m → l ≡ m
-    inside l m e = cc
+    map-set_same (λ t. t.line) ts at u u (is ∙ sym (some_same (get_or ts at u).line line that))
 
 module _ (ns : List Node) (ts : List LineTally) (n : Node) (row : Row) (known own : Front) (coming : IsComing ns (lines_of ts) n row known) (tallied : IsTallied ns ts) where
   abbrev ls : List Line
@@ -195,10 +191,7 @@ module _ (ns : List Node) (ts : List LineTally) (n : Node) (row : Row) (known ow
     passes = ap (λ (l : Line). same_line l (class_of n)) line_is ∙ ap (same_line line) class ∙ line_itself line
 
     old_line : t.line ≡ u.line
-    old_line = let r = tally_at ts line at found in let same : r.0 ≡ t = inside r.0 t (sym r.1 ∙ here) in ap (λ (x : LineTally). x.line) (sym same) ∙ r.2 ∙ sym line_is
-      where
-        inside : (a b : LineTally) → Some a ≡ Some b → a ≡ b
-        inside a b e = cc
+    old_line = let r = tally_at ts line at found in let same : r.0 ≡ t = some_same r.0 t (sym r.1 ∙ here) in ap (λ (x : LineTally). x.line) (sym same) ∙ r.2 ∙ sym line_is
 
     total : (b : Bool) → is_of_sets line ≡ b → (if b then t.count else min (t.count + 1) (2 ^ 32 - 1)) ≡ place (n ∷ ns) line (length (n ∷ ns))
     total true e =

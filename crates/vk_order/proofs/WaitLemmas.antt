@@ -20,8 +20,8 @@ use Rattle.vk_order.specs.declared.keyed.Keyed.{Keyed}
 use Rattle.vk_order.specs.Inner.Fronts.{IsNamed}
 use Rattle.vk_order.specs.Inner.Keyed.{front_at, IsLeastFront}
 use Rattle.vk_order.specs.Inner.Names.{is_set_of, signals_value, is_awaited_for, AreSignals}
-use Rattle.vk_order.proofs.Arrange.{or-false, and-false}
 use Rattle.vk_order.proofs.FrontLemmas.{front_same}
+use Rattle.std.proofs.Math.Bool.{or-false, and-true}
 
 -- ---- values that are signaled
 
@@ -65,7 +65,7 @@ module _ (ns : List Node) (ls : List Line) (signals : Keyed) (are : AreSignals n
       where
         go : (t : Option (ℕ × ℕ)) → holds t (λ x. x.0 == s && is_least ns s v x.1 && not (is_enough ns s v)) ≡ holds t (λ x. x.0 == s && is_least ns s v x.1)
         go None = refl
-        go (Some x) = ap (λ (b : Bool). x.0 == s && is_least ns s v x.1 && not b) few ∙ Rattle.vk_order.proofs.Arrange.and-true (x.0 == s && is_least ns s v x.1)
+        go (Some x) = ap (λ (b : Bool). x.0 == s && is_least ns s v x.1 && not b) few ∙ and-true (x.0 == s && is_least ns s v x.1)
 
     -- where no value is enough
     pub none_least : ((u : ℕ) → v ≤ u → front_at signals s u ≡ None) → (k : Node) → Contains ns k → is_awaited_for ns s v k ≡ false
@@ -140,14 +140,6 @@ module _ (ns : List Node) (ls : List Line) (signals : Keyed) (are : AreSignals n
     least_named (Some f) least =
         front_same ns ls (λ n. signals_value s least.0 n.act) (is_awaited_for ns s v) f (least_same least.0 f least.1 least.2 least.3)
         (subst (λ (o : Option Front). IsNamed ns ls (λ n. signals_value s least.0 n.act) o) least.2 (are.each s least.0))
-
--- where the initial value is enough, no signal is awaited
-pub enough_none : (ns : List Node) (s v : ℕ) → is_enough ns s v ≡ true → (k : Node) → is_awaited_for ns s v k ≡ false
-enough_none ns s v e k = go (signaled_by k.act)
-  where
-    go : (o : Option (ℕ × ℕ)) → holds o (λ x. x.0 == s && is_least ns s v x.1 && not (is_enough ns s v)) ≡ false
-    go None = refl
-    go (Some x) = ap (λ (b : Bool). x.0 == s && is_least ns s v x.1 && not b) e ∙ and-false (x.0 == s && is_least ns s v x.1)
 
 -- ---- all waits of an act
 

@@ -22,6 +22,7 @@ use Rattle.vk_overlap_facts.specs.Parts.{AreMeetingAreas, AreEqualIds}
 use Rattle.vk_overlap_facts.specs.Inner.Found.{IsRising, IsOfElements, IsOfIds}
 use Rattle.vk_overlap_facts.specs.Inner.Areas.{transition_area, id_area}
 use Rattle.vk_overlap_facts.proofs.Walks.{pair_made, cross_made}
+use Rattle.std.proofs.Math.Bool.{and-true}
 
 -- an item of a list that is made of another comes from an item of that
 item_from : {A B : Type 0} (f : A → B) (xs : List A) (k : ℕ) (y : B) → slice_get (map f xs) k ≡ Some y → (x : A) × (slice_get xs k ≡ Some x) × (f x ≡ y)
@@ -108,12 +109,8 @@ named c (element.Image e) h = go (is_transition e) h where
 
 -- ---- ids
 
-and_true : (b : Bool) → (b && true) ≡ b
-and_true true = refl
-and_true false = refl
-
 pub ids : (a b : ℕ) → areas_meet (id_area a) (id_area b) ≡ nat_eq a b
-ids a b = and_true (nat_eq a b)
+ids a b = and-true (nat_eq a b)
 
 -- ---- areas
 

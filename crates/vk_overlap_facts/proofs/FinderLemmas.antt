@@ -10,7 +10,8 @@ use Rattle.vk_overlap_facts.specs.declared.finder.Met.{Met}
 use Rattle.vk_overlap_facts.specs.declared.finder.Pair.{Pair}
 use Rattle.vk_overlap_facts.specs.Inner.Areas.{area_of}
 use Rattle.vk_overlap_facts.specs.Inner.Found.{IsMetFrom, IsPair, IsRising}
-use Rattle.vk_overlap_facts.proofs.Walks.{item_of, any_later, pair_later, pair_made, cross_made}
+use Rattle.vk_overlap_facts.proofs.Walks.{any_later, pair_later, pair_made, cross_made}
+use Rattle.vk_model.proofs.Lists.Items.{get_mapped}
 
 -- a pair of two lists shows that some items of them meet
 pub pair_reported : (xs ys : List Area) (q : Pair) → IsPair xs ys q → list_any (λ w. list_any (areas_meet w) ys) xs ≡ true
@@ -40,7 +41,7 @@ rising_of_met xs k a m q is met e =
 module _ (xs : List Given) (k : ℕ) (d : Given) (lt : k < length xs) where
   -- the area of a number
   pub area_at : slice_get (map area_of xs) k ≡ Some (area_of (get_or xs k d))
-  area_at = item_of area_of xs k (get_or xs k d) (slice_get-get_or xs k d lt)
+  area_at = get_mapped area_of xs k (get_or xs k d) (slice_get-get_or xs k d lt)
 
   -- one that fails a test is left out
   pub any_more : (f : Area → Bool) → f (area_of (get_or xs k d)) ≡ false → list_any f (drop (k + 1) (map area_of xs)) ≡ list_any f (drop k (map area_of xs))

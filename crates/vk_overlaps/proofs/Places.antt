@@ -2,7 +2,7 @@
 use Rattle.std.proofs.Common.{◌≡◌, ℕ, ◌+◌, List, [], map, Bool, true, false, cond, Option, Some, None, ◌||◌, ◌&&◌, ◌==◌, refl, sym, ap, ◌∙◌, inl, inr, arith}
 use Rattle.std.specs.Prelude.{nat_lt}
 use Rattle.std.specs.List.{list_any, filter_map}
-use Rattle.std.proofs.Math.Bool.{or-false}
+use Rattle.std.proofs.Math.Bool.{or-false, and-true}
 use Rattle.std.proofs.lemmas.Bool.{cases_order, lt-ltb, le-ltb, eq-eqb, ne_eqb, and_right, and_left, and_from}
 use Rattle.vk_model.specs.declared.command.BufferCopy.{BufferCopy}
 use Rattle.vk_model.specs.declared.command.BufferImageCopy.{BufferImageCopy}
@@ -21,10 +21,6 @@ use Rattle.vk_overlaps.specs.Regions.{copies_meet, copy_meets_source, copies_ove
 use Rattle.vk_overlaps.specs.Inner.Places.{bytes_at, box_at, range_at, transition_part, copy_written, copy_read, region_texels, image_copy_written, image_copy_read}
 use Rattle.vk_overlaps.proofs.ListPairs.{pair_map, pair_same, cross_map, cross_same, empty_cross, on_both, pairs_of_some}
 
-and_true : (b : Bool) → (b && true) ≡ b
-and_true true = refl
-and_true false = refl
-
 -- spans of one meet where they are the same
 pub ones_meet : (a b : ℕ) → ranges_meet a 1 b 1 ≡ (a == b)
 ones_meet a b = elim (cases_order a b) [
@@ -36,13 +32,13 @@ ones_meet a b = elim (cases_order a b) [
 ]
 
 pub bytes_meet : (o n p m : ℕ) → extents_meet (bytes_at o n) (bytes_at p m) ≡ ranges_meet o n p m
-bytes_meet o n p m = and_true (ranges_meet o n p m)
+bytes_meet o n p m = and-true (ranges_meet o n p m)
 
 pub boxes : (k l : Box) → extents_meet (box_at k) (box_at l) ≡ boxes_meet k l
 boxes k l = ap (λ b. b && ranges_meet k.first_layer k.layers l.first_layer l.layers && ranges_meet k.x k.width l.x l.width && ranges_meet k.y k.height l.y l.height) (ones_meet k.level l.level)
 
 pub ranges : (r s : SubresourceRange) → extents_meet (range_at 0 r) (range_at 0 s) ≡ subresources_meet r s
-ranges r s = and_true (subresources_meet r s && true) ∙ and_true (subresources_meet r s)
+ranges r s = and-true (subresources_meet r s && true) ∙ and-true (subresources_meet r s)
 
 -- parts that are written, and none that is read
 alone : {A : Type 0} (t : A → A → Bool) (f : A → Extent) (same : (x y : A) → extents_meet (f x) (f y) ≡ t x y) (xs : List A) → parts_overlap (map f xs) [] ≡ some_pair t xs
@@ -75,7 +71,7 @@ image_copies_both = both image_copies_meet image_copy_meets_source image_copy_wr
 -- ---- transitions
 
 regrouped : (a b c : Bool) → (((a && b) && c) && true) && true ≡ (((a && true) && true) && (b && c))
-regrouped true b c = and_true ((b && c) && true) ∙ and_true (b && c)
+regrouped true b c = and-true ((b && c) && true) ∙ and-true (b && c)
 regrouped false b c = refl
 
 -- two elements meet as transitions where their parts do

@@ -1,15 +1,12 @@
 -- Commands that come after the last one of their entry are new.
 use Rattle.std.proofs.Common.{◌≡◌, ⊎_elim, ℕ, List, Bool, true, false, ◌&&◌, Option, Some, None, refl, ap, sym, ◌∙◌, subst, arith}
-use Rattle.std.specs.Prelude.{Contains, ◌==◌, if◌then◌else◌}
+use Rattle.std.specs.Prelude.{◌==◌, if◌then◌else◌}
 use Rattle.std.specs.Ordering.{nat_cmp}
 use Rattle.std.specs.BTreeMap.{get}
 use Rattle.std.proofs.lemmas.Bool.{and_parts, eqb-true, eq-eqb}
 use Rattle.std.proofs.lemmas.Bool.Decides.{nat_tests}
-use Rattle.vk_model.specs.declared.command.Cmd.{Cmd}
-use Rattle.vk_model.specs.Trace.Point.{Point, Run, Host, Wait, Signal, Action}
-use Rattle.vk_model.specs.Sync.Node.{Node, Act, acts, with_acts, same_place}
-use Rattle.vk_model.specs.Sync.Edge.{is_element}
-use Rattle.vk_model.proofs.Lists.Members.{only_one}
+use Rattle.vk_model.specs.Trace.Point.{Point}
+use Rattle.vk_model.specs.Sync.Node.{Node, Act, with_acts, same_place}
 use Rattle.vk_model.proofs.Lists.Truths.{clash}
 use Rattle.vk_order.specs.Queries.{IsNew}
 use Rattle.vk_order.proofs.ElementPlaces.{with_member}
@@ -60,19 +57,3 @@ kept_command old new ns p more outside set are m there element = ⊎_elim
         ap (λ (o : Option (ℕ × ℕ)). is_within o m.point.batch m.point.place) (set m.point.entry ∙ ap (λ (c : Bool). if c then Some (p.batch, p.place) else get nat_cmp old.by_entry m.point.entry) e)
         ∙ still_within (get nat_cmp old.by_entry p.entry) p.batch p.place m.point.batch m.point.place outside was
     by false e h = ap (λ (o : Option (ℕ × ℕ)). is_within o m.point.batch m.point.place) (set m.point.entry ∙ ap (λ (c : Bool). if c then Some (p.batch, p.place) else get nat_cmp old.by_entry m.point.entry) e) ∙ h
-
--- a point that is no command has no element
-pub kept_other : (t : Newest) (ns : List Node) (p : Point) → ((c : Cmd) → p.action ≡ Run c → ⊥) → AreNewest t ns → AreNewest t (with_acts p (acts p.action) ns)
-kept_other t ns p other are m there element = ⊎_elim
-    (λ before. are m before element)
-    (λ own. absurd (clash element (none p.action refl m.act own.1)))
-    (with_member p (acts p.action) ns m there)
-  where
-    none : (d : Action) → p.action ≡ d → (a : Act) → Contains (acts p.action) a → is_element a ≡ false
-    none (Host x) e a c = let one = only_one _ a (subst (λ (d : Action). Contains (acts d) a) e c) in ap is_element (sym one)
-    none (Wait s) e a c = let one = only_one _ a (subst (λ (d : Action). Contains (acts d) a) e c) in ap is_element (sym one)
-    none (Signal s) e a c = let one = only_one _ a (subst (λ (d : Action). Contains (acts d) a) e c) in ap is_element (sym one)
-    none (Run x) e a c = absurd (other x e)
-
-pub new_other : (p : Point) (ns : List Node) → ((c : Cmd) → p.action ≡ Run c → ⊥) → IsNew p ns
-new_other p ns other c run m there element = absurd (other c run)

@@ -38,10 +38,6 @@ live_of past s = go (ended past s) where
   go true = refl
   go false = refl
 
--- an id is kept among a batch's waits where its tally is of a semaphore that is live
-pub live_is_kept : (t : Tallies) (past : Past) (s : ℕ) → IsTallied t past → (not (tally_at t s).is_ended && is_some (tally_at t s).initial) ≡ is_some (option_and_then semaphore_in (live past s))
-live_is_kept t past s tallied = ap (λ (x : Tally). not x.is_ended && is_some x.initial) (tallied s) ∙ live_of past s
-
 module _ (t : Tallies) (past : Past) (ws : List SemaphoreSubmit) (i : ℕ) (d : SemaphoreSubmit) (tallied : IsTallied t past) (lt : i < length ws) where
   -- one more of the first waits is met
   pub met_more : list_all (is_met past) (take i ws) ≡ true → has_reached (tally_at t (get_or ws i d).semaphore) (get_or ws i d).value ≡ true → list_all (is_met past) (take (i + 1) ws) ≡ true

@@ -5,7 +5,7 @@ use Rattle.std.specs.List.{filter, list_all}
 use Rattle.std.proofs.lemmas.Bool.{eqb-true, eqb-false, eq-eqb, ne_eqb}
 use Rattle.std.proofs.lemmas.List.Elements.{filter-append, Contains-append_cases}
 use Rattle.std.proofs.lemmas.List.{map-append}
-use Rattle.std.proofs.lemmas.Option.{slice_get-map}
+use Rattle.std.proofs.lemmas.Option.{slice_get-map, slice_get_within}
 use Rattle.vk_model.specs.declared.entry.Batch.{Batch}
 use Rattle.vk_model.specs.declared.entry.SemaphoreSubmit.{SemaphoreSubmit}
 use Rattle.vk_model.specs.Trace.Point.{Past}
@@ -15,8 +15,9 @@ use Rattle.vk_queues.specs.declared.lines.Submission.{Submission}
 use Rattle.vk_queues.specs.declared.lines.Line.{Line}
 use Rattle.vk_queues.specs.declared.lines.Candidate.{Candidate}
 use Rattle.vk_queues.specs.Inner.Lined.{Precedes, submission_of, IsRising, ready_submission, Queued, IsLined, IsBest, AreFirstMet, AreMet, AreAllMet, batches_on, queued, submissions}
-use Rattle.vk_queues.proofs.Lists.{set_cases, set_here, set_there, push_cases, push_old, get_below, filter_none, filter_each, filter_wider, filter_swap, list_all_wider}
+use Rattle.vk_queues.proofs.Lists.{set_cases, set_here, set_there, filter_none, filter_wider, filter_swap, list_all_wider}
 use Rattle.vk_queues.proofs.NextBatch.{on, without, without_first, none_next, some_next, rising_filter, one_of_submission}
+use Rattle.vk_model.proofs.Lists.Items.{push_cases, push_old, filter_each}
 
 -- ---- one line changes
 
@@ -56,19 +57,19 @@ pub lined_push : (lines : List Queued) (q : ℕ) (waiting : List SubmittedBatch)
     → IsLined (lines ++ record { queue = q; batches = [] } ∷ []) waiting
 lined_push lines q waiting lined free =
     let e : Queued = record { queue = q; batches = [] } in record {
-      each = λ j u at. elim (push_cases lines j e u at) [
+      each = λ j u at. elim (push_cases lines e u j at) [
         | inl old ↦ lined.each j u old
-        | inr new ↦ subst (λ (x : Queued). filter (on x.queue) waiting ≡ x.batches) (sym new.1)
+        | inr new ↦ subst (λ (x : Queued). filter (on x.queue) waiting ≡ x.batches) new.1
             (filter_none (on q) waiting (λ t c. let x = lined.all t c in ne_eqb t.queue q (λ same. free x.0 x.1 x.2 (x.3 ∙ same))))
       ];
-      all = λ t c. let x = lined.all t c in (x.0, x.1, push_old lines x.0 e x.1 x.2, x.3);
-      apart = λ i j a b x y same. elim (push_cases lines i e a x) [
-        | inl m ↦ elim (push_cases lines j e b y) [
+      all = λ t c. let x = lined.all t c in (x.0, x.1, push_old lines e x.1 x.0 x.2, x.3);
+      apart = λ i j a b x y same. elim (push_cases lines e a i x) [
+        | inl m ↦ elim (push_cases lines e b j y) [
           | inl n ↦ lined.apart i j a b m n same
-          | inr n ↦ absurd (free i a m (same ∙ ap (λ (z : Queued). z.queue) n.1))
+          | inr n ↦ absurd (free i a m (same ∙ ap (λ (z : Queued). z.queue) (sym n.1)))
         ]
-        | inr m ↦ elim (push_cases lines j e b y) [
-          | inl n ↦ absurd (free j b n (sym same ∙ ap (λ (z : Queued). z.queue) m.1))
+        | inr m ↦ elim (push_cases lines e b j y) [
+          | inl n ↦ absurd (free j b n (sym same ∙ ap (λ (z : Queued). z.queue) (sym m.1)))
           | inr n ↦ m.0 ∙ sym n.0
         ]
       ];
@@ -149,7 +150,7 @@ module _ (past : Past) (lines : List Queued) (waiting : List SubmittedBatch) (li
   none_is_next none = none_next past [] waiting (λ q free. go q (ready_submission past (filter (on q) waiting)) refl) where
     go : (q : ℕ) (o : Option Submission) → ready_submission past (filter (on q) waiting) ≡ o → o ≡ None
     go q None e = refl
-    go q (Some u) e = absurd (let x = ready_line q u e in none x.0 u (get_below lines x.0 x.1 x.2) (submission_at past lines x.0 x.1 x.2 ∙ ap Some x.3))
+    go q (Some u) e = absurd (let x = ready_line q u e in none x.0 u (slice_get_within lines x.0 x.1 x.2) (submission_at past lines x.0 x.1 x.2 ∙ ap Some x.3))
 
   module _ (rising : IsRising waiting) (c : Candidate) (best : IsBest (submissions past lines) (length lines) (Some c)) (v : Queued) (there : slice_get lines c.line ≡ Some v) where
     its_submission : ready_submission past v.batches ≡ Some c.submission
@@ -171,7 +172,7 @@ module _ (past : Past) (lines : List Queued) (waiting : List SubmittedBatch) (li
               is,
               some_next past [] waiting t rest rising refl (ap (λ (q : ℕ). filter (on q) waiting) queue ∙ lined.each c.line v there ∙ is) met
                   (λ q u free submission before. let x = ready_line q u submission in
-                  best.1 x.0 u (get_below lines x.0 x.1 x.2) (submission_at past lines x.0 x.1 x.2 ∙ ap Some x.3) (subst (Precedes u) same before)),
+                  best.1 x.0 u (slice_get_within lines x.0 x.1 x.2) (submission_at past lines x.0 x.1 x.2 ∙ ap Some x.3) (subst (Precedes u) same before)),
             )
 
 -- ---- what is known to be met
@@ -197,14 +198,14 @@ met_set past lines k new old met = λ j l at. elim (set_cases lines k j new l at
 ]
 
 pub met_push : (past : Past) (lines : List Line) (new : Line) → AreAllMet past lines → new.met ≡ 0 → AreAllMet past (lines ++ new ∷ [])
-met_push past lines new old met = λ j l at. elim (push_cases lines j new l at) [
+met_push past lines new old met = λ j l at. elim (push_cases lines new l j at) [
   | inl early ↦ old j l early
-  | inr late ↦ subst (AreMet past) (sym late.1) (subst (λ (n : ℕ). AreFirstMet past n (batches_on new)) (sym met) (none_met past (batches_on new)))
+  | inr late ↦ subst (AreMet past) late.1 (subst (λ (n : ℕ). AreFirstMet past n (batches_on new)) (sym met) (none_met past (batches_on new)))
 ]
 
 -- where no line knows anything
 pub met_nowhere : (past : Past) (lines : List Line) → ((k : ℕ) (l : Line) → k < length lines → slice_get lines k ≡ Some l → l.met ≡ 0) → AreAllMet past lines
-met_nowhere past lines none = λ k l at. subst (λ (n : ℕ). AreFirstMet past n (batches_on l)) (sym (none k l (get_below lines k l at) at)) (none_met past (batches_on l))
+met_nowhere past lines none = λ k l at. subst (λ (n : ℕ). AreFirstMet past n (batches_on l)) (sym (none k l (slice_get_within lines k l at) at)) (none_met past (batches_on l))
 
 pub queued_at : (lines : List Line) (k : ℕ) (l : Line) → slice_get lines k ≡ Some l → slice_get (map queued lines) k ≡ Some (queued l)
 queued_at lines k l at = slice_get-map queued lines k ∙ ap (Rattle.std.specs.Option.option_map queued) at

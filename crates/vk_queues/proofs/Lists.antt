@@ -1,5 +1,5 @@
 -- Lists: what is at an index, and what tests leave.
-use Rattle.std.proofs.Common.{◌≡◌, ◌≢◌, ◌⊎◌, inl, inr, ℕ, zero, suc, ◌<◌, length, List, [], ◌∷◌, ◌++◌, set, Bool, true, false, cond, refl, ap, sym, arith, Some, slice_get}
+use Rattle.std.proofs.Common.{◌≡◌, ◌≢◌, ◌⊎◌, inl, inr, ℕ, zero, suc, List, [], ◌∷◌, set, Bool, true, false, cond, refl, ap, sym, arith, Some, slice_get}
 use Rattle.std.specs.Prelude.{Contains}
 use Rattle.std.specs.List.{filter, list_all}
 use Rattle.std.proofs.lemmas.Bool.{and_parts, and_from}
@@ -30,36 +30,11 @@ set_there (z ∷ zs) zero (suc j) x y ne e = e
 set_there (z ∷ zs) (suc k) zero x y ne e = e
 set_there (z ∷ zs) (suc k) (suc j) x y ne e = set_there zs k j x y (λ same. ne (ap suc same)) e
 
--- an item there, where one more is at the end
-pub push_cases : {X : Type 0} (xs : List X) (j : ℕ) (x y : X) → slice_get (xs ++ x ∷ []) j ≡ Some y → (slice_get xs j ≡ Some y) ⊎ ((j ≡ length xs) × (y ≡ x))
-push_cases [] zero x y e = inr (refl, let same : x ≡ y = cc in sym same)
-push_cases [] (suc j) x y e = absurd cc
-push_cases (z ∷ zs) zero x y e = inl e
-push_cases (z ∷ zs) (suc j) x y e = elim (push_cases zs j x y e) [ inl old ↦ inl old | inr new ↦ inr (ap suc new.0, new.1) ]
-
-pub push_old : {X : Type 0} (xs : List X) (j : ℕ) (x y : X) → slice_get xs j ≡ Some y → slice_get (xs ++ x ∷ []) j ≡ Some y
-push_old [] j x y e = absurd cc
-push_old (z ∷ zs) zero x y e = e
-push_old (z ∷ zs) (suc j) x y e = push_old zs j x y e
-
-pub push_new : {X : Type 0} (xs : List X) (x : X) → slice_get (xs ++ x ∷ []) (length xs) ≡ Some x
-push_new [] x = refl
-push_new (z ∷ zs) x = push_new zs x
-
-pub get_below : {X : Type 0} (xs : List X) (j : ℕ) (y : X) → slice_get xs j ≡ Some y → j < length xs
-get_below [] j y e = absurd cc
-get_below (z ∷ zs) zero y e = omega arith
-get_below (z ∷ zs) (suc j) y e = let lt = get_below zs j y e in omega arith
-
 -- ---- what tests leave
 
 pub filter_none : {X : Type 0} (f : X → Bool) (xs : List X) → ((x : X) → Contains xs x → f x ≡ false) → filter f xs ≡ []
 filter_none f [] fails = refl
 filter_none f (x ∷ xs) fails = rw (fails x (contains-head x xs)) (filter_none f xs (λ y c. fails y (contains-tail x xs y c)))
-
-pub filter_each : {X : Type 0} (f : X → Bool) (xs : List X) → ((x : X) → Contains xs x → f x ≡ true) → filter f xs ≡ xs
-filter_each f [] passes = refl
-filter_each {X} f (x ∷ xs) passes = rw (passes x (contains-head x xs)) (ap (λ (l : List X). x ∷ l) (filter_each f xs (λ y c. passes y (contains-tail x xs y c))))
 
 -- a test that all that pass another pass
 pub filter_wider : {X : Type 0} (f g : X → Bool) (xs : List X) → ((x : X) → Contains xs x → g x ≡ true → f x ≡ true) → filter g (filter f xs) ≡ filter g xs

@@ -1,15 +1,14 @@
 -- In an ordered past no two commands are at one place. Other crates cite it.
-use Rattle.std.proofs.Common.{◌≡◌, ℕ, zero, suc, ◌+◌, List, [], ◌∷◌, ◌++◌, length, Bool, true, false, Some, refl, ap, sym, ◌∙◌, subst, take, slice_get, arith}
+use Rattle.std.proofs.Common.{◌≡◌, ℕ, zero, suc, List, [], ◌∷◌, Bool, true, false, Some, refl, subst, take, slice_get}
 use Rattle.std.specs.Prelude.{◌&&◌, ◌==◌}
 use Rattle.std.proofs.lemmas.Bool.{and_parts, eqb-true}
 use Rattle.vk_model.specs.declared.command.Cmd.{Cmd}
 use Rattle.vk_model.specs.declared.entry.Entry.{Entry}
 use Rattle.vk_model.specs.Trace.Point.{Past, Point, Run, at_of}
-use Rattle.vk_model.specs.Trace.Order.{Front, after_entry, order}
+use Rattle.vk_model.specs.Trace.Order.{order}
 use Rattle.vk_model.specs.Trace.Structure.{IsOrdered}
 use Rattle.vk_model.specs.Sync.Node.{nodes, same_place}
 use Rattle.vk_model.specs.Rules.Fault.{Comes, newest, older}
-use Rattle.vk_model.proofs.Trace.Growing.{order_append}
 use Rattle.vk_model.proofs.Trace.Once.{come_once}
 use Rattle.vk_model.proofs.Trace.Structure.{order_ordered}
 use Rattle.vk_model.proofs.Trace.Older.{comes_has}
@@ -18,7 +17,6 @@ use Rattle.vk_order.specs.PointViews.{point_of}
 use Rattle.vk_order.specs.Queries.{IsNew}
 use Rattle.vk_order.specs.Places.{IsElsewhere, IsApart}
 use Rattle.vk_order.proofs.ElementPlaces.{elsewhere}
-use Rattle.vk_queues.specs.IsWaiting.{front_of}
 use Rattle.vk_queues.specs.PointViews.{past_after, past_of}
 
 -- commands at one place are reported alike
@@ -63,15 +61,3 @@ comes_at past (q ∷ qs) (suc k) p at = comes_at (point_of q ∷ past) qs k p at
 -- so each point of reference order is new after the ones before it
 pub new_at : (t : List Entry) (ps : List Given) (k : ℕ) (p : Given) → past_of ps ≡ order t → slice_get ps k ≡ Some p → IsNew (point_of p) (nodes (past_of (take k ps)))
 new_at t ps k p is at = order_new t (past_of (take k ps)) (point_of p) (subst (λ (past : Past). Comes past (past_of (take k ps)) (point_of p)) is (comes_at [] ps k p at))
-
--- ---- one entry more
-
--- what is after one entry more
-pub front_push : (t : List Entry) (x : Entry) → front_of (t ++ x ∷ []) ≡ after_entry (length t) x (front_of t)
-front_push t x = order_append 0 (record { past = []; waiting = [] }) t (x ∷ []) ∙ ap (λ (e : ℕ). after_entry e x (front_of t)) (let same : 0 + length t ≡ length t = omega arith in same)
-
--- its points are new, each after the ones before it
-pub new_after : (t : List Entry) (x : Entry) (ps : List Given) (k : ℕ) (p : Given) → past_after (order t) ps ≡ (after_entry (length t) x (front_of t)).past → slice_get ps k ≡ Some p → IsNew (point_of p) (nodes (past_after (order t) (take k ps)))
-new_after t x ps k p is at =
-    let whole : past_after (order t) ps ≡ order (t ++ x ∷ []) = is ∙ ap (λ (f : Front). f.past) (sym (front_push t x)) in
-    order_new (t ++ x ∷ []) (past_after (order t) (take k ps)) (point_of p) (subst (λ (past : Past). Comes past (past_after (order t) (take k ps)) (point_of p)) whole (comes_at (order t) ps k p at))

@@ -11,7 +11,7 @@ use Rattle.vk_model.proofs.Lists.Members.{none_in, contains-cons, contains-head,
 use Rattle.vk_model.proofs.Trace.Orders.{its_own}
 use Rattle.vk_queues.specs.declared.lines.Submission.{Submission}
 use Rattle.vk_queues.specs.Inner.Lined.{Precedes, submission_of, IsRising, ready_submission}
-use Rattle.vk_queues.proofs.Lists.{filter_each}
+use Rattle.vk_model.proofs.Lists.Items.{filter_each}
 
 -- ---- the order of submission
 

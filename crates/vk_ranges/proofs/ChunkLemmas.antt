@@ -18,10 +18,6 @@ module _ {T : Type 0} where
 
   -- ---- where an end is
 
-  pub chunks_some : (low : ℕ) (chunks : List (Chunk T)) → AreChunks low chunks → low < 2 ^ 32 → 0 < length chunks
-  chunks_some low [] c lt = absurd (omega arith)
-  chunks_some low (chunk ∷ chunks) c lt = omega arith
-
   pub chunk_is : (end at : ℕ) (chunks : List (Chunk T)) → at < length chunks → ((k : ℕ) (d : Chunk T) → k < at → (get_or chunks k d).last < end)
       → ((d : Chunk T) → end ≤ (get_or chunks at d).last) → IsChunkOf end at chunks
   chunk_is end at [] lt before here = absurd (omega arith)

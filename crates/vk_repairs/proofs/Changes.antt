@@ -1,7 +1,6 @@
 -- Lists after a change at a place.
-use Rattle.std.proofs.Common.{◌≡◌, ℕ, zero, suc, ◌<◌, ◌≤◌, List, [], ◌∷◌, ◌++◌, length, set, refl, ap, sym, arith, append-nil}
+use Rattle.std.proofs.Common.{◌≡◌, ℕ, zero, suc, ◌<◌, ◌≤◌, List, [], ◌∷◌, length, set, refl, ap, arith}
 use Rattle.std.specs.Prelude.{insert, remove, slice_index_or}
-use Rattle.std.proofs.lemmas.List.{take_all, drop_all}
 use Rattle.vk_repairs.specs.Edits.{at_index}
 
 -- past the end there is nothing to change
@@ -15,14 +14,6 @@ pub at_index_set : {A : Type 0} (k : ℕ) (y : A) (xs : List A) → set xs k y �
 at_index_set k y [] = refl
 at_index_set zero y (x ∷ xs) = refl
 at_index_set (suc k) y (x ∷ xs) = ap (λ ys. x ∷ ys) (at_index_set k y xs)
-
--- past the end an item is inserted at the end
-pub insert_past : {A : Type 0} (k : ℕ) (y : A) (xs : List A) → length xs ≤ k → xs ++ y ∷ [] ≡ insert xs k y
-insert_past k y xs past = rw (take_all k xs past, drop_all k xs past) refl
-
--- past the end there is nothing to take out
-pub remove_past : {A : Type 0} (k : ℕ) (xs : List A) → length xs ≤ k → xs ≡ remove xs k
-remove_past k xs past = rw (take_all k xs past, drop_all (suc k) xs (omega arith)) (sym (append-nil xs))
 
 -- an item that is taken out, and what becomes of it put back
 put : {A : Type 0} (f : A → A) (k : ℕ) (x : A) (xs : List A) → k < length xs → x ≡ slice_index_or xs k x → insert (remove xs k) k (f x) ≡ at_index f k xs

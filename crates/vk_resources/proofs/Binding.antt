@@ -2,7 +2,7 @@
 use Rattle.std.proofs.Common.{◌≡◌, ◌⊎◌, inl, inr, ℕ, ◌+◌, ◌<◌, ◌≤◌, Bool, true, false, not, ◌||◌, ◌&&◌, ◌%◌, ◌==◌, eq-eqb, refl, ap, sym, ◌∙◌, subst, arith, Option, Some, None}
 use Rattle.std.specs.Prelude.{IsTrue, Contains, is_some, option_map, option_and_then, if◌then◌else◌}
 use Rattle.std.specs.List.{list_any, filter_map}
-use Rattle.std.proofs.lemmas.Bool.{eqb-true, ltb-false, lt-ltb, or_parts, false_from_ne_true, cases_lt}
+use Rattle.std.proofs.lemmas.Bool.{eqb-true, ltb-false, or_parts, false_from_ne_true}
 use Rattle.vk_model.proofs.Lists.Members.{found, chosen_has, filter_has, member_passes}
 use Rattle.vk_model.proofs.Lists.Truths.{clash}
 use Rattle.vk_model.specs.declared.entry.Entry.{Entry}
@@ -31,6 +31,7 @@ use Rattle.vk_resources.specs.Inner.Steps.{BindReady}
 use Rattle.vk_resources.proofs.Placing.{inside_of}
 use Rattle.vk_resources.proofs.Matching.{LivePlaced, is_live, home, live_of_placed, resource_of_placed, lies_in}
 use Rattle.vk_resources.proofs.Fitting.{live_made}
+use Rattle.vk_model.proofs.Memory.Ranges.{beside}
 
 -- ---- a live object
 
@@ -76,15 +77,6 @@ module _ (past : Past) (c : ℕ) (y : Entry) (r : Resource) (alive_is : live pas
   none_passes test none = false_from_ne_true (test c) (λ h. clash (member_passes test (live_resources past) c among_live h) none)
 
 -- ---- two ranges that don't meet
-
-meets_none : (a n b k : ℕ) → 0 < n → 0 < k → ranges_meet a n b k ≡ false → (a + n ≤ b) ⊎ (b + k ≤ a)
-meets_none a n b k some more none = elim (cases_lt b (a + n)) [
-  | inr le ↦ inl le
-  | inl lt ↦ elim (cases_lt a (b + k)) [
-    | inr le ↦ inr le
-    | inl lt' ↦ let meets : ranges_meet a n b k ≡ true = rw (lt-ltb 0 n some, lt-ltb 0 k more, lt-ltb a (b + k) lt', lt-ltb b (a + n) lt) refl in absurd (clash meets none)
-  ]
-]
 
 smaller : (a n k b m l : ℕ) → n ≤ k → m ≤ l → (a + k ≤ b) ⊎ (b + l ≤ a) → AreApart a n b m
 smaller a n k b m l less fewer (inl le) = inl (omega (arith, less, le))
@@ -143,15 +135,15 @@ module _ (past : Past) (s : Held) (m : MatchesLive past s) (apart : IsApart s.me
   ends_within = ltb-false memory_info.0.size (o + r.size) (rw (live_made memory_in past k memory_info.0 memory_info.1) at fits.1)
 
   -- a resource that is bound to it doesn't meet the new one
-  beside : (c : ℕ) (q : Placed) (l : LivePlaced (live past) c q) (o' : ℕ) → l.resource.place ≡ place.Memory k o' → 0 < q.size → AreApart o size o' q.size
-  beside c q l o' is more =
+  others_beside : (c : ℕ) (q : Placed) (l : LivePlaced (live past) c q) (o' : ℕ) → l.resource.place ≡ place.Memory k o' → 0 < q.size → AreApart o size o' q.size
+  others_beside c q l o' is more =
       let t = l.resource in
       let none = none_passes past c l.made t l.alive_is l.resource_is (λ i. holds (resource past i) (conflicts_with past r k o)) fits.2 in
       let clear : conflicts_with past r k o t ≡ false = rw (resource_is past c l.made t l.alive_is l.resource_is) at none in
       let both : (ranges_meet o r.size o' t.size || not (same_kind r.kind t.kind) && share_page o r.size o' t.size) ≡ false = rw (is, eq-eqb k k refl) at clear in
       let within = l.within in
       smaller o size r.size o' q.size t.size less within
-      (meets_none o r.size o' t.size (omega (arith, less, some)) (omega (arith, within, more)) (or_parts (ranges_meet o r.size o' t.size) (not (same_kind r.kind t.kind) && share_page o r.size o' t.size) both).0)
+      (beside o r.size o' t.size (omega (arith, less, some)) (omega (arith, within, more)) (or_parts (ranges_meet o r.size o' t.size) (not (same_kind r.kind t.kind) && share_page o r.size o' t.size) both).0)
 
   bound_beside : (c : ℕ) (q : Placed) → placed s c ≡ Some q → q.object ≡ number_of.0 → AreApart o size q.offset q.size
   bound_beside c q at object =
@@ -165,7 +157,7 @@ module _ (past : Past) (s : Held) (m : MatchesLive past s) (apart : IsApart s.me
     where
       go : (c : ℕ) (q : Placed) (l : LivePlaced (live past) c q) → 0 < q.size → (p : Place) → l.resource.place ≡ p → LiesAt (live past) s c p q → home c p ≡ k → AreApart o size q.offset q.size
       go c q l more (place.Dedicated t) is lies same = absurd (no_resource_in (live past k) l.made l.resource fits.0 (ap (live past) (sym same) ∙ l.alive_is) l.resource_is)
-      go c q l more (place.Memory k' o') is lies same = rw lies.2 (beside c q l o' (is ∙ ap (λ (i : ℕ). place.Memory i o') same) more)
+      go c q l more (place.Memory k' o') is lies same = rw lies.2 (others_beside c q l o' (is ∙ ap (λ (i : ℕ). place.Memory i o') same) more)
       go c q l more (place.Pool p) is lies same = absurd (no_resource_in (live past k) l.made l.resource fits.0 (ap (live past) (sym same) ∙ l.alive_is) l.resource_is)
       go c q l more (place.PoolUpper p) is lies same = absurd (no_resource_in (live past k) l.made l.resource fits.0 (ap (live past) (sym same) ∙ l.alive_is) l.resource_is)
 

@@ -5,23 +5,22 @@ use Rattle.std.proofs.lemmas.Bool.Decides.{nat_tests}
 use Rattle.std.specs.Prelude.{IsSome, is_some, option_and_then}
 use Rattle.vk_map_cache.specs.Holdings.{Holdings, held_at, IsByte, Changes, given, is_reached, is_in_atom}
 use Rattle.vk_map_cache.proofs.CellLemmas.{same_cell, given-outside}
-use Rattle.vk_memory.specs.MemoryState.{MemoryState, region_of, type_of, type_in}
+use Rattle.vk_memory.specs.MemoryState.{MemoryState, region_of, type_of}
 use Rattle.vk_model.specs.declared.resource.ImageInfo.{ImageInfo}
 use Rattle.vk_model.specs.declared.command.Length.{Length}
 use Rattle.vk_model.specs.declared.command.Length.TheVariants as length_of
 use Rattle.vk_model.specs.Run.Caches as caches
-use Rattle.vk_model.specs.Run.Caches.{Cell, forgotten}
+use Rattle.vk_model.specs.Run.Caches.{Cell}
 use Rattle.vk_model.specs.Run.CachedRuns.{after_host_write}
 use Rattle.vk_model.specs.World.Bytes.{Byte, in_buffer, in_image}
 use Rattle.vk_model.specs.World.Effect.{in_atoms}
 use Rattle.vk_transfer.specs.Ran.{AreApart}
-use Rattle.vk_backing.specs.Backed.{Backed}
-use Rattle.vk_backing.specs.Steps.{Grows}
 use Rattle.vk_resources.specs.declared.resources.Placed.{Placed}
-use Rattle.vk_resources.specs.Held.{Held, IsApart, IsInside, IsCaching, IsCachedByte, IsInAtoms, IsConsistent, is_cached_in, placed, placed_in, shape_of, flat, flat_in, host_at, byte_at, IsThere, HasCell}
+use Rattle.vk_resources.specs.Held.{Held, IsInside, IsCaching, IsCachedByte, IsInAtoms, IsConsistent, is_cached_in, placed, placed_in, shape_of, flat, flat_in, host_at, byte_at, IsThere, HasCell}
 use Rattle.vk_resources.specs.Inner.Steps.{MayReach, MayReachTo, cached_at, changed_of, length_to}
-use Rattle.vk_resources.proofs.Placing.{inside_of, grown_object}
+use Rattle.vk_resources.proofs.Placing.{inside_of}
 use Rattle.vk_resources.proofs.Lying.{byte_lies, buffer_lies, where_lies, where_is, where_image, lies_within, byte_stays}
+use Rattle.std.proofs.Math.Bool.{and-true}
 
 -- ---- the bytes of a buffer
 
@@ -81,11 +80,6 @@ caching_typed memory memory' resources cache types c = record {
   aligned = λ b p here is. c.aligned b p here (ap (λ (t : ℕ). t == 2) (sym (types b p here)) ∙ is);
   only = λ number k held. let w = c.only number k held in record { id = w.id; place = w.place; here = w.here; object = w.object; cached = ap (λ (t : ℕ). t == 2) (types w.id w.place w.here) ∙ w.cached; atom = w.atom };
 }
-
--- a memory object more
-pub caching_grown : (m n : MemoryState) (grows : Grows m n) (backed : Backed) (resources : List (ℕ × Placed)) (cache : Holdings) → IsApart m backed resources → IsCaching m resources cache → IsCaching n resources cache
-caching_grown m n grows backed resources cache apart c =
-    caching_typed m n resources cache (λ b p here. ap type_in (grown_object m n grows p.object (inside_of m backed resources apart b p here).live)) c
 
 -- a buffer more
 pub caching_put : (memory : MemoryState) (old new : List (ℕ × Placed)) (cache : Holdings) (id : ℕ) (p : Placed) → placed_in old id ≡ None → placed_in new id ≡ Some p → ((q : ℕ) → (q ≡ id → ⊥) → placed_in new q ≡ placed_in old q)
@@ -283,11 +277,7 @@ ends_in size o length_of.Whole fits = omega (arith, fits)
 pub reached_to : (size o k : ℕ) (n : Length) → FitsIn size o n → k < size → in_atoms o (length_of.Bytes (length_to size o n)) k ≡ in_atoms o n k
 reached_to size o k (length_of.Bytes n) fits lt = refl
 reached_to size o k length_of.Whole fits lt =
-    rw (lt-ltb 0 (size - o) (omega (arith, fits)), le-leb (k / 64) ((o + (size - o) - 1) / 64) (omega (arith, fits, lt))) (and_true (nat_le (o / 64) (k / 64)))
-  where
-    and_true : (t : Bool) → (t && true) ≡ t
-    and_true true = refl
-    and_true false = refl
+    rw (lt-ltb 0 (size - o) (omega (arith, fits)), le-leb (k / 64) ((o + (size - o) - 1) / 64) (omega (arith, fits, lt))) (and-true (nat_le (o / 64) (k / 64)))
 
 module _ (p : Placed) (aligned : p.offset % 64 ≡ 0) (o m : ℕ) (fits : o + m ≤ p.size) where
   -- a range of a buffer reaches no atom but its own

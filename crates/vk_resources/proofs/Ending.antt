@@ -1,11 +1,9 @@
 -- What is asked of the resources by an entry that fits, and done for one that ends something.
 use Rattle.std.proofs.Common.{◌≡◌, false, ℕ, ◌<◌, ◌≤◌, refl, ap, sym, ◌∙◌, subst, arith, Option, Some, None}
-use Rattle.std.proofs.lemmas.Bool.{le-ltb}
 use Rattle.std.specs.Prelude.{IsTrue, option_and_then}
 use Rattle.vk_model.specs.declared.entry.Entry.{Entry}
 use Rattle.vk_model.specs.declared.entry.Entry.TheVariants as entry
 use Rattle.vk_model.specs.declared.resource.BufferInfo.{BufferInfo}
-use Rattle.vk_model.specs.declared.resource.MemoryInfo.{MemoryInfo}
 use Rattle.vk_model.specs.declared.resource.Place.{Place}
 use Rattle.vk_model.specs.declared.resource.Place.TheVariants as place
 use Rattle.vk_model.specs.Basics.{holds}
@@ -13,28 +11,20 @@ use Rattle.vk_model.specs.Trace.Point.{Past}
 use Rattle.vk_model.specs.declared.resource.ImageInfo.{ImageInfo}
 use Rattle.vk_model.specs.Trace.Image.{image_size}
 use Rattle.vk_model.specs.Trace.Objects.{Resource, of_buffer, of_image, live, image_in, pool_in}
-use Rattle.vk_image_tiles.specs.Shapes.{refusal}
 use Rattle.vk_model.specs.Rules.Ids.{is_memory, is_resource}
 use Rattle.vk_model.specs.Rules.Sizes.{bad_image}
-use Rattle.vk_backing.specs.Backed.{allocation_of}
 use Rattle.vk_resources.specs.declared.applied.Applied.TheVariants as applied
 use Rattle.vk_resources.specs.Held.{Held, IsConsistent, placed, shape_of, object_of}
 use Rattle.vk_resources.specs.Matches.{MatchesLive, size_made, has_memory}
 use Rattle.vk_resources.specs.Fits.{IsUnused, FitsEntry, FitsBuffer, FitsImage, FitsPlace}
 use Rattle.vk_resources.specs.Done.{DoneBy}
-use Rattle.vk_resources.specs.Inner.Steps.{IsMaking, BindReady, IsEmpty, Ends}
+use Rattle.vk_resources.specs.Inner.Steps.{BindReady, IsEmpty, Ends}
 use Rattle.vk_resources.proofs.Matching.{unowned, unplaced}
 use Rattle.vk_resources.proofs.Living.{live_end, not_live, empty}
 use Rattle.vk_resources.proofs.Binding.{bind_ready, destroyed_clear, freed_clear}
-use Rattle.vk_resources.proofs.Applying.{end_goes, no_allocation}
+use Rattle.vk_resources.proofs.Applying.{end_goes}
 
 -- ---- a new object
-
-pub memory_absent : (s : Held) (y : Entry) (i : ℕ) (info : MemoryInfo) → y ≡ entry.Memory i info → (past : Past) → MatchesLive past s → FitsEntry past y → object_of s i ≡ None
-memory_absent s y i info is past m fit = unowned (live past) s i m (ap (λ (o : Option Entry). holds o has_memory) (not_live past i (subst (λ (x : Entry). FitsEntry past x) is fit).0))
-
-pub memory_unshared : (s : Held) (y : Entry) (i : ℕ) (info : MemoryInfo) → y ≡ entry.Memory i info → (past : Past) → MatchesLive past s → FitsEntry past y → allocation_of s.backed i ≡ None
-memory_unshared s y i info is past m fit = no_allocation past s i m (subst (λ (x : Entry). FitsEntry past x) is fit).0
 
 -- what an entry that makes a resource is known to be of
 pub record CreationFits (past : Past) (i : ℕ) (r : Resource) (size : ℕ) (shape : Option ImageInfo) : Type 0 where
@@ -57,25 +47,9 @@ image_fits y i info some is past fit =
 pub image_good : (y : Entry) (i : ℕ) (info : ImageInfo) → y ≡ entry.Image i info → (past : Past) → FitsEntry past y → bad_image info ≡ false
 image_good y i info is past fit = let fits : FitsImage past i info = subst (λ (x : Entry). FitsEntry past x) is fit in fits.shaped
 
--- an entry that makes no object isn't one of those
-pub makes_one : (y : Entry) → IsMaking y → ((i : ℕ) (m : MemoryInfo) → y ≡ entry.Memory i m → ⊥) → ((i : ℕ) (b : BufferInfo) → y ≡ entry.Buffer i b → ⊥) → ((i : ℕ) (m : ImageInfo) → y ≡ entry.Image i m → ⊥) → ⊥
-makes_one (entry.Memory i m) making memory buffer image = memory i m refl
-makes_one (entry.Buffer i b) making memory buffer image = buffer i b refl
-makes_one (entry.Image i m) making memory buffer image = image i m refl
-makes_one _ making memory buffer image = making
-
--- an image that fits has a shape
-pub image_refusal : (y : Entry) (i : ℕ) (info : ImageInfo) → y ≡ entry.Image i info → (past : Past) → FitsEntry past y → refusal info ≡ None
-image_refusal y i info is past fit =
-    let fits : FitsImage past i info = subst (λ (x : Entry). FitsEntry past x) is fit in
-    rw (fits.shaped, le-ltb 67108864 (image_size info info.tiling) fits.bounded) refl
-
 module _ (s : Held) (past : Past) (m : MatchesLive past s) (i : ℕ) (r : Resource) (size : ℕ) (shape : Option ImageInfo) (fits : CreationFits past i r size shape) where
   pub no_object : object_of s i ≡ None
   no_object = unowned (live past) s i m (ap (λ (o : Option Entry). holds o has_memory) (not_live past i fits.unused))
-
-  pub no_share : allocation_of s.backed i ≡ None
-  no_share = no_allocation past s i m fits.unused
 
   pub no_place : placed s i ≡ None
   no_place = unplaced (live past) s i m (ap (option_and_then size_made) (not_live past i fits.unused))

@@ -14,21 +14,20 @@ use Rattle.vk_model.specs.Trace.Objects.{Resource, of_image}
 use Rattle.vk_model.specs.Trace.Point.{Past}
 use Rattle.vk_model.specs.Memory.PlaceLaws.{TexelByte, TexelsInside}
 use Rattle.vma_pools.specs.declared.allocations.Asked.{Asked}
-use Rattle.vk_image_tiles.proofs.LevelBounds.{counts, some_bytes}
+use Rattle.vk_image_tiles.proofs.LevelBounds.{counts}
 use Rattle.vk_image_transfer.specs.Held.{ImageOf}
 use Rattle.vk_image_transfer.proofs.Places.{place_within}
 use Rattle.vk_resources.specs.declared.applied.Applied.{Applied}
 use Rattle.vk_resources.specs.declared.applied.Applied.TheVariants as applied
 use Rattle.vk_resources.specs.declared.resources.Placed.{Placed}
-use Rattle.vk_resources.specs.Allocating.{NoRoomIsExact, Allots}
 use Rattle.vk_resources.specs.Held.{Held, IsShaped, IsConsistent}
 use Rattle.vk_resources.specs.Matches.{MatchesLive}
 use Rattle.vk_resources.specs.Fits.{FitsEntry, FitsPlace}
 use Rattle.vk_resources.specs.Done.{DoneBy}
 use Rattle.vk_resources.specs.Inner.Steps.{ResourceMade, BindReady, Binds, SharedMade}
 use Rattle.vk_resources.proofs.Applying.{IsCreatingEntry, resource_done, bound_done}
-use Rattle.vk_resources.proofs.Allotting.{resource_rooms, resource_allots, bound_rooms, bound_allots, bound_same}
 use Rattle.vk_resources.proofs.Ending.{CreationFits, binds_ready, image_good}
+use Rattle.vk_model.proofs.World.BytePlaces.{texel_some}
 
 -- ---- the shape of an image
 
@@ -47,7 +46,7 @@ image_some law m good =
     let levels = levels_some m.tiling m (or_parts (is_outside 4096 m.width || is_outside 4096 m.height || is_outside 256 m.layers) (bad_levels m.tiling m) good).1 in
     let layers = c.layers.some in
     let first : TexelByte = record { level = 0; layer = 0; x = 0; y = 0; texel_byte = 0 } in
-    let below = law m first (record { shaped = good; level_there = levels; layer_there = layers; x_there = omega arith; y_there = omega arith; texel_byte_there = some_bytes m.format }) in
+    let below = law m first (record { shaped = good; level_there = levels; layer_there = layers; x_there = omega arith; y_there = omega arith; texel_byte_there = texel_some m.format }) in
     omega (arith, below)
 
 pub image_shaped : TexelsInside → (m : ImageInfo) → bad_image m ≡ false → (p : Placed) → p.size ≡ image_size m m.tiling → IsShaped m p
@@ -64,27 +63,15 @@ module _ (s new : Held) (y x : Entry) (is : y ≡ x) (i : ℕ) (r : Resource) (s
     pub own_done : (e : ℕ) (past : Past) → MatchesLive past s → FitsEntry past y → DoneBy a e y past s new
     own_done e past m fit = subst (λ (z : Entry). DoneBy a e z past s new) (sym is) (resource_done s new x i r size shape creating t own consistent a made e past m (fits past fit).unused)
 
-    pub own_rooms : (past : Past) → FitsEntry past y → NoRoomIsExact a s y
-    own_rooms past fit = subst (λ (z : Entry). NoRoomIsExact a s z) (sym is) (resource_rooms s new x i r size shape creating t own a made)
-
-    pub own_allots : (past : Past) → MatchesLive past s → FitsEntry past y → Allots a y s new
-    own_allots past m fit = subst (λ (z : Entry). Allots a z s new) (sym is) (resource_allots s new x i r size shape creating t own a made)
-
   module _ (k o : ℕ) (at : r.place ≡ place.Memory k o) where
     pub may_bind : (past : Past) → MatchesLive past s → FitsEntry past y → BindReady s k o size
     may_bind past m fit = binds_ready s past m i r size shape (fits past fit) k o at consistent
-
-    pub bind_rooms : (past : Past) → FitsEntry past y → NoRoomIsExact applied.Done s y
-    bind_rooms past fit = subst (λ (z : Entry). NoRoomIsExact applied.Done s z) (sym is) (bound_rooms s new x i r size shape creating k o at)
 
     module _ (binds : Binds s new i k o size shape) where
       pub bind_done : (e : ℕ) (past : Past) → MatchesLive past s → FitsEntry past y → DoneBy applied.Done e y past s new
       bind_done e past m fit =
           subst (λ (z : Entry). DoneBy applied.Done e z past s new) (sym is)
           (bound_done s new x i r size shape creating k o at consistent (may_bind past m fit) binds e past m (fits past fit).unused (subst (λ (q : Place). FitsPlace past r q) at (fits past fit).place))
-
-      pub bind_allots : (past : Past) → MatchesLive past s → FitsEntry past y → Allots applied.Done y s new
-      bind_allots past m fit = subst (λ (z : Entry). Allots applied.Done z s new) (sym is) (bound_allots s new x i r size shape creating k o at (bound_same s new binds.0 binds.1))
 
 -- what was made by the size that was asked, and of the shape that was given
 pub made_as : (a : Applied) (s new : Held) (i t n : ℕ) (shape info : ImageInfo) → n ≡ image_size info info.tiling → shape ≡ info → ResourceMade a s new i t n n (Some shape) → ResourceMade a s new i t (image_size info info.tiling) (of_image info).size (Some info)

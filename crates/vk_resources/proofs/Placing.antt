@@ -27,9 +27,6 @@ inside_of m backed resources apart b p here = subst (λ (x : Option Placed). IfS
 one_place : (x : Option Placed) (p q : Placed) → x ≡ Some p → x ≡ Some q → p ≡ q
 one_place x p q a b = let both : Some p ≡ Some q = sym a ∙ b in cc
 
-pub one_number : (x : Option ℕ) (m n : ℕ) → x ≡ Some m → x ≡ Some n → m ≡ n
-one_number x m n a b = let both : ◌≡◌ {A = Option ℕ} (Some m) (Some n) = sym a ∙ b in cc
-
 pub turned : (p q a b : ℕ) → AreApart p a q b → AreApart q b p a
 turned p q a b (inl le) = inr le
 turned p q a b (inr le) = inl le
@@ -91,31 +88,10 @@ module _ (m : MemoryState) (o : Object) where
       let there : object_at more (length m.objects) ≡ slice_index_or (Some o ∷ []) (length m.objects - length m.objects) None = get_or-append_right m.objects (Some o ∷ []) (length m.objects) None (omega arith) in
       there ∙ rw none refl
 
-  live_more : (q : ℕ) → IsLive m q → IsLive more q
-  live_more q live = subst (λ (x : Option Object). IsSome x) (sym (kept_object q live)) live
-
-  inside_more : (b : Placed) → IsInside m b → IsInside more b
-  inside_more b h = record {
-    live = live_more b.object h.live;
-    some = h.some;
-    room = subst (λ (x : Option Object). b.offset + b.size ≤ length (bytes_of x)) (sym (kept_object b.object h.live)) h.room;
-  }
-
 -- memory objects stay as they were, but for new ones
 module _ (m n : MemoryState) (grows : Grows m n) where
   pub grown_object : (q : ℕ) → IsLive m q → object_at n q ≡ object_at m q
   grown_object q live = let o = some_there (object_at m q) live in grows q o.0 o.1 ∙ sym o.1
-
-  pub apart_grown : (backed new : Backed) (resources : List (ℕ × Placed)) → IsBacked new n → IsApart m backed resources → IsApart n new resources
-  apart_grown backed new resources is apart = record {
-    inside = λ q. some_more (placed_in resources q) (IsInside m) (IsInside n) (λ b here h. record {
-      live = subst (λ (x : Option Object). IsSome x) (sym (grown_object b.object h.live)) h.live;
-      some = h.some;
-      room = subst (λ (x : Option Object). b.offset + b.size ≤ length (bytes_of x)) (sym (grown_object b.object h.live)) h.room;
-    }) (apart.inside q);
-    apart = apart.apart;
-    backed_is = is;
-  }
 
 -- ---- a buffer more
 

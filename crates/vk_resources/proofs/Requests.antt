@@ -10,7 +10,8 @@ use Rattle.vk_model.specs.Basics.{below, round_up}
 use Rattle.vk_model.specs.Memory.Suballocation.{IsRequest}
 use Rattle.vk_model.specs.Rules.Sizes.{bad_image}
 use Rattle.vk_model.specs.Trace.Image.{texel, tiles_across, tiles_down, level_size, layer_size, row_pitch, image_size, image_align}
-use Rattle.vk_image_tiles.proofs.LevelBounds.{counts, some_bytes}
+use Rattle.vk_image_tiles.proofs.LevelBounds.{counts}
+use Rattle.vk_model.proofs.World.BytePlaces.{texel_some}
 
 -- ---- sizes in units of 16
 
@@ -53,7 +54,7 @@ level_units m k =
     let down : 0 < tiles_down m k = some_tiles (m.height / 2 ^ k) in
     let tiles : 0 < tiles_across m k * tiles_down m k = mul-pos across down in
     let texels : 0 < tiles_across m k * tiles_down m k * 64 = mul-pos tiles (omega arith) in
-    tile_units (tiles_across m k * tiles_down m k * 64 * texel m.format) (mul-pos texels (some_bytes m.format))
+    tile_units (tiles_across m k * tiles_down m k * 64 * texel m.format) (mul-pos texels (texel_some m.format))
 
 sums : (f : ℕ → ℕ) → ((k : ℕ) → (0 < f k) × IsMultiple (f k)) → (xs : List ℕ) (a : ℕ) → IsMultiple a → (a ≤ fold (λ n x. n + f x) a xs) × IsMultiple (fold (λ n x. n + f x) a xs)
 unfolding IsMultiple
@@ -76,7 +77,7 @@ layer_units m some = go m.levels some
 image_units : (k : Kind) (m : ImageInfo) → bad_image m ≡ false → (0 < image_size m k) × IsMultiple (image_size m k)
 image_units kind.Linear m good =
     let c = counts m good in
-    let row = row_units (m.width * texel m.format) (mul-pos c.width.some (some_bytes m.format)) in
+    let row = row_units (m.width * texel m.format) (mul-pos c.width.some (texel_some m.format)) in
     (mul-pos row.0 c.height.some, scaled (row_pitch m) m.height row.1)
 image_units kind.Optimal m good =
     let c = counts m good in

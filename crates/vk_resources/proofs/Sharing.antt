@@ -18,9 +18,9 @@ use Rattle.vk_transfer.specs.Ran.{AreApart}
 use Rattle.vma_pools.specs.declared.allocations.Asked.{Asked}
 use Rattle.vk_backing.specs.Backed as backing
 use Rattle.vk_backing.specs.declared.backing.Own.{Own}
-use Rattle.vk_backing.specs.Backed.{Backed, number_in, object_in, pool_of, allocation_of, info_by, LiesIn, IsBacked, IsWhole}
+use Rattle.vk_backing.specs.Backed.{Backed, number_in, object_in, pool_of, IsBacked, IsWhole}
 use Rattle.vk_backing.specs.Spots.{AreSpots}
-use Rattle.vk_backing.specs.Steps.{Grows, Owns, Shares, OwnAllots, ShareAllots, Asks}
+use Rattle.vk_backing.specs.Steps.{Grows, Shares, ShareAllots, Asks}
 use Rattle.vk_backing.specs.Allotted as allotting
 use Rattle.vk_backing.proofs.Spots.{are_spots, spot_object}
 use Rattle.vk_resources.specs.declared.applied.Applied.{Applied}
@@ -31,7 +31,7 @@ use Rattle.vk_resources.specs.Held.{Held, IsConsistent, placed, placed_in, shape
 use Rattle.vk_resources.specs.Matches.{MatchesLive, LiesAt, LiesOf, is_own, has_memory, size_made, type_of_place}
 use Rattle.vk_resources.specs.Fits.{IsUnused}
 use Rattle.vk_resources.specs.Done.{DoneBy}
-use Rattle.vk_resources.specs.Inner.Steps.{Makes, Puts, PutReady, PutIn, SharedMade, FoundOr, ShapeReady, LiesElsewhere, IsEmpty}
+use Rattle.vk_resources.specs.Inner.Steps.{Puts, PutReady, PutIn, SharedMade, FoundOr, ShapeReady, LiesElsewhere, IsEmpty}
 use Rattle.vk_resources.proofs.Placing.{grown_object, inside_of, turned}
 use Rattle.vk_resources.proofs.CachedBytes.{clear_atoms}
 use Rattle.vk_resources.proofs.Matching.{home, lies_in, live_of_placed, resource_of_placed, unowned, unplaced}
@@ -99,18 +99,6 @@ shared_ready old n id pool size asked upper shape spot found some fits absent un
 -- ---- what was made before a resource was put
 
 module _ (old n new : Held) (memory : new.memory ≡ n.memory) (backed : new.backed ≡ n.backed) where
-  pub makes_on : (id t size : ℕ) → Makes old n id t size → Makes old new id t size
-  makes_on id t size makes = record {
-    memory = memory ∙ makes.memory;
-    here = ap (λ (b : Backed). backing.object_of b id) backed ∙ makes.here;
-    others = λ i other. ap (λ (b : Backed). backing.object_of b i) backed ∙ makes.others i other;
-    owns = subst (λ (b : Backed). Owns old.backed b old.memory new.memory id t size (length old.memory.objects)) (sym backed) (subst (λ (m : MemoryState). Owns old.backed n.backed old.memory m id t size (length old.memory.objects)) (sym memory) makes.owns);
-    backed = subst (λ (b : Backed). IsBacked b new.memory) (sym backed) (subst (λ (m : MemoryState). IsBacked n.backed m) (sym memory) makes.backed);
-    whole = λ w. subst IsWhole (sym backed) (makes.whole w);
-    allots = subst (λ (b : Backed). OwnAllots (Some (length old.memory.objects)) (allotted old) (allotting.allotted b new.memory) id t size) (sym backed)
-        (subst (λ (m : MemoryState). OwnAllots (Some (length old.memory.objects)) (allotted old) (allotting.allotted n.backed m) id t size) (sym memory) makes.allots);
-  }
-
   pub shared_put : (id pool size : ℕ) (asked : Asked) (upper : Bool) (shape : Option ImageInfo) (spot : Spot) → FoundOr (Some spot) old n id pool asked upper → Grows old.memory n.memory → Puts n new id (record { size = size; object = spot.memory; offset = spot.offset }) shape → new.cache ≡ n.cache
       → PutIn old new id pool size asked upper shape spot
   shared_put id pool size asked upper shape spot found grows puts cache = record {

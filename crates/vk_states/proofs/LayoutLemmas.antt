@@ -132,9 +132,6 @@ pub record KeepLayouts (kept past : Past) : Type 0 where
   pub layouts : (i k l : ℕ) → layout_in i k l kept ≡ layout_in i k l past
   pub since : (i k l : ℕ) → find (transitions i k l) kept ≡ find (transitions i k l) past
 
-pub keep_none : KeepLayouts [] []
-keep_none = record { layouts = λ i k l. refl; since = λ i k l. refl }
-
 pub keep_more : (kept past : Past) (p : Point) → KeepLayouts kept past → KeepLayouts (p ∷ kept) (p ∷ past)
 keep_more kept past p have = record {
   layouts = λ i k l. ap (layout_by_point i k l p) (have.layouts i k l);

@@ -1,6 +1,5 @@
 pub mod LayoutLemmas
 pub mod RangeLemmas
-pub mod BindingLemmas
 pub mod MapLemmas
 pub mod EventLemmas
 pub mod OwnerLemmas

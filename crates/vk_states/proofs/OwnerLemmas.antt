@@ -17,6 +17,7 @@ use Rattle.vk_model.specs.World.Ownership.{Transfer, Stays, Release, Acquire, Ne
 use Rattle.vk_laws.proofs.Forms.Unchanged.{host_owner, transitioned_owner}
 use Rattle.vk_states.specs.Owners.{takes_half}
 use Rattle.vk_states.specs.Inner.OwnerSteps.{owner_half, owner_by, owner_by_action, owner_by_point, owner_in}
+use Rattle.std.proofs.Math.Bool.{and-false}
 
 -- ---- uses
 
@@ -25,13 +26,9 @@ module _ (past : Past) (f r : ℕ) where
   swap : (k : ℕ) → (is_exclusive past k && (r == k)) ≡ (is_exclusive past r && (r == k))
   swap k = go (r == k) refl
     where
-      none : (x : Bool) → (x && false) ≡ false
-      none true = refl
-      none false = refl
-
       go : (b : Bool) → (r == k) ≡ b → (is_exclusive past k && (r == k)) ≡ (is_exclusive past r && (r == k))
       go true e = ap (λ (i : ℕ). is_exclusive past i && (r == k)) (sym (eqb-true r k e))
-      go false e = rw e (none (is_exclusive past k) ∙ sym (none (is_exclusive past r)))
+      go false e = rw e (and-false (is_exclusive past k) ∙ sym (and-false (is_exclusive past r)))
 
   used_owner : (k : ℕ) (w : World) → (used past f k w).owner r ≡ (if is_exclusive past r && (r == k) then Family f else w.owner r)
   used_owner k w = go (is_exclusive past k) refl ∙ ap (λ (b : Bool). if b then Family f else w.owner r) (swap k)
@@ -48,11 +45,11 @@ module _ (past : Past) (f r : ℕ) where
   choose false a b o = refl
 
   uses_owner : (rs : List ℕ) (w : World) → (fold (λ v k. used past f k v) w rs).owner r ≡ (if is_exclusive past r && among r rs then Family f else w.owner r)
-  uses_owner [] w = none (is_exclusive past r)
+  uses_owner [] w = and-false (is_exclusive past r)
     where
-      none : (x : Bool) → w.owner r ≡ (if x && false then Family f else w.owner r)
-      none true = refl
-      none false = refl
+      and-false : (x : Bool) → w.owner r ≡ (if x && false then Family f else w.owner r)
+      and-false true = refl
+      and-false false = refl
   uses_owner (k ∷ rs) w =
       uses_owner rs (used past f k w) ∙ ap (λ (o : Owner). if is_exclusive past r && among r rs then Family f else o) (used_owner k w)
       ∙ choose (is_exclusive past r) (r == k) (among r rs) (w.owner r)
@@ -70,13 +67,13 @@ module _ (past : Past) (q r : ℕ) where
   set_over : (k : ℕ) (o : Owner) (w : World) → (set_owner k o (used past f k w)).owner r ≡ (if (r == k) && true then o else w.owner r)
   set_over k o w = go (r == k) refl
     where
-      none : (y : Bool) → (if y && false then Family f else w.owner r) ≡ w.owner r
-      none true = refl
-      none false = refl
+      and-false : (y : Bool) → (if y && false then Family f else w.owner r) ≡ w.owner r
+      and-false true = refl
+      and-false false = refl
 
       go : (b : Bool) → (r == k) ≡ b → (if r == k then o else (used past f k w).owner r) ≡ (if (r == k) && true then o else w.owner r)
       go true e = rw e refl
-      go false e = rw e (used_owner past f r k w ∙ rw e (none (is_exclusive past r)))
+      go false e = rw e (used_owner past f r k w ∙ rw e (and-false (is_exclusive past r)))
 
   set_one : (k : ℕ) (o : Owner) (w v : World) → v.owner r ≡ w.owner r → (set_owner k o v).owner r ≡ (if (r == k) && true then o else w.owner r)
   set_one k o w v same = go (r == k) refl
@@ -149,6 +146,3 @@ world_owner (p ∷ past) r = ap (owner_by_point (is_exclusive past r) r p) (worl
 -- an entry that makes the resource
 pub made_now : (past : Past) (p : Point) (x : Entry) (r : ℕ) → p.action ≡ Host x → holds (made_by x) (λ j. r == j) ≡ true → is_exclusive (p ∷ past) r ≡ holds (resource_in x) (λ s. is_exclusive_mode s.sharing)
 made_now past p x r is makes = rw (is, makes) refl
-
-pub not_made : (past : Past) (p : Point) (x : Entry) (r : ℕ) → p.action ≡ Host x → holds (made_by x) (λ j. r == j) ≡ false → is_exclusive (p ∷ past) r ≡ is_exclusive past r
-not_made past p x r is other = rw (is, other) refl

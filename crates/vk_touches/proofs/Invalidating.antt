@@ -7,7 +7,7 @@ use Rattle.std.proofs.lemmas.Option.{slice_get_past, slice_get-get_or}
 use Rattle.vk_model.specs.Basics.{holds}
 use Rattle.vk_touches.specs.declared.touches.LastTouches.{LastTouches}
 use Rattle.vk_touches.specs.Remembered.{untouched, with_invalidation}
-use Rattle.vk_touches.specs.TouchedRanges.{invalidating, sees_at, AreInvalidated}
+use Rattle.vk_touches.specs.TouchedRanges.{invalidating, sees_at}
 
 module _ (sees : ℕ → Bool → LastTouches → Type 0) where
   -- of the bytes from one on and below another it is remembered
@@ -17,24 +17,6 @@ module _ (sees : ℕ → Bool → LastTouches → Type 0) where
     pub inside : (k : ℕ) (t : LastTouches) → low ≤ k → k < at → slice_get old k ≡ Some t → (answer : Bool) × (slice_get new k ≡ Some (with_invalidation t answer)) × sees k answer t
     pub before : (k : ℕ) → k < low → slice_get new k ≡ slice_get old k
     pub after : (k : ℕ) → at ≤ k → slice_get new k ≡ slice_get old k
-
-  pub invalidated_start : (old : List LastTouches) (low : ℕ) → AreInvalidatedTo old old low low
-  invalidated_start old low = record { above = omega arith; size = refl; inside = λ k t from to. absurd (omega (arith, from, to)); before = λ k lt. refl; after = λ k ge. refl }
-
-  pub invalidated_next : (old now next : List LastTouches) (low at end : ℕ) → AreInvalidatedTo old now low at → length next ≡ length now → AreInvalidated sees now next at end → AreInvalidatedTo old next low end
-  invalidated_next old now next low at end so_far size one =
-      let above = so_far.above in
-      let further = one.further in
-      record {
-        above = omega (arith, above, further);
-        size = size ∙ so_far.size;
-        inside = λ k t from to was. ⊎_elim
-            (λ lt. let h = so_far.inside k t from lt was in (h.0, one.before k lt ∙ h.1, h.2))
-            (λ ge. one.inside k t ge to (so_far.after k ge ∙ was))
-            (cases_lt k at);
-        before = λ k lt. one.before k (omega (arith, above, lt)) ∙ so_far.before k lt;
-        after = λ k ge. one.after k ge ∙ so_far.after k (omega (arith, further, ge));
-      }
 
   module _ (old new : List LastTouches) (low high : ℕ) (fits : high ≤ length old) (test : ℕ → Bool) (is : (k : ℕ) → k < length old → test k ≡ (nat_le low k && nat_lt k high)) (at : ℕ) (end : high ≤ at) (all : AreInvalidatedTo old new low at) (short : at ≤ high) where
     there : (k : ℕ) (t : LastTouches) → slice_get old k ≡ Some t → k < length old

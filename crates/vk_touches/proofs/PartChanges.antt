@@ -81,11 +81,6 @@ pub assigned_where : {A : Type 0} (v : A) (test : ℕ → Bool) (old new : List 
     → (k : ℕ) → slice_get new k ≡ option_map (λ a. if test k then v else a) (slice_get old k)
 assigned_where v test old new low high fits is before after inside = changed_where (λ a. v) test old new low high fits is before after (λ i ge lt. inside i ge lt ∙ ap (option_map (λ a. v)) (sym (slice_get-get_or old i v (omega (arith, lt, fits)))))
 
--- two changes, one after the other
-pub changed_twice : {A : Type 0} (t : Bool) (f : A → A) (v : A) (o : Option A) → option_map (λ a. if t then v else a) (option_map f o) ≡ option_map (λ a. if t then v else f a) o
-changed_twice t f v None = refl
-changed_twice t f v (Some a) = refl
-
 -- what follows of a value from what is said of it
 pub if_ok : {T E : Type 0} {P Q : T → Type 0} (r : Result T E) → IfOk r P → ((x : T) → P x → Q x) → IfOk r Q
 if_ok (Ok x) h f = f x h

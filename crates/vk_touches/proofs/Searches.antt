@@ -35,9 +35,6 @@ module _ {A : Type 0} (says : ℕ → Bool → A → Type 0) where
     inside : (a b : A) → Some a ≡ Some b → a ≡ b
     inside a b e = cc
 
-  pub none_refused : (low high : ℕ) → SomeBetween (λ k t. IsRefused (says k) t None) false low high
-  none_refused low high = λ k from to. record { none = λ e. refl; some = λ a e. absurd cc }
-
 -- where memory is cached, the first flush stands for the last host write
 module _ (x : ResourceAccess) (t : LastTouches) (written : is_none t.host_write ≡ false) (f : Spot) (flushed : t.flush ≡ Some f) where
   by_flush : (k : ℕ) (r : Bool) → SaysSeen x k (not r) f → MissesFlush x k r t

@@ -15,13 +15,9 @@ use Rattle.vk_transfer.specs.Copies.{copy_pieces, copy_piece, region_piece, regi
 use Rattle.vk_transfer.specs.Counted.{AreCounted, all_counted}
 use Rattle.vk_transfer.proofs.CopiedBytes.{length_copy}
 use Rattle.vk_transfer.proofs.Ranges.{piece_below, piece_counted}
+use Rattle.vk_model.proofs.Lists.Items.{get_before}
 
 -- ---- items of lists that are put together
-
-get-left : {X : Type 0} (xs ys : List X) (i : ℕ) → i < length xs → slice_get (xs ++ ys) i ≡ slice_get xs i
-get-left [] ys i lt = absurd (omega arith)
-get-left (x ∷ xs) ys zero lt = refl
-get-left (x ∷ xs) ys (suc i) lt = get-left xs ys i (omega arith)
 
 get-right : {X : Type 0} (xs ys : List X) (i : ℕ) → slice_get (xs ++ ys) (length xs + i) ≡ slice_get ys i
 get-right [] ys i = let none : 0 + i ≡ i = omega arith in ap (λ (k : ℕ). slice_get ys k) none
@@ -29,7 +25,7 @@ get-right (x ∷ xs) ys i = let more : suc (length xs) + i ≡ suc (length xs + 
 
 pub get-flat_map : {X A : Type 0} (f : X → List A) (gs : List X) (i j : ℕ) (d : X) → i < length gs → j < length (f (get_or gs i d)) → slice_get (flat_map f gs) (length (flat_map f (take i gs)) + j) ≡ slice_get (f (get_or gs i d)) j
 get-flat_map f [] i j d lt small = absurd (omega arith)
-get-flat_map f (g ∷ gs) zero j d lt small = let none : 0 + j ≡ j = omega arith in ap (λ (k : ℕ). slice_get (f g ++ flat_map f gs) k) none ∙ get-left (f g) (flat_map f gs) j small
+get-flat_map f (g ∷ gs) zero j d lt small = let none : 0 + j ≡ j = omega arith in ap (λ (k : ℕ). slice_get (f g ++ flat_map f gs) k) none ∙ get_before (f g) (flat_map f gs) j small
 get-flat_map f (g ∷ gs) (suc i) j d lt small =
     let rest = length (flat_map f (take i gs)) in
     let sum : length (f g ++ flat_map f (take i gs)) + j ≡ length (f g) + (rest + j) = omega (arith, length-append (f g) (flat_map f (take i gs))) in

@@ -1,17 +1,14 @@
 -- What holds of a block holds of each that is alike.
-use Rattle.std.proofs.Common.{◌≡◌, ℕ, suc, ◌+◌, ◌%◌, ◌<◌, List, [], ◌∷◌, Bool, not, ◌==◌, ◌&&◌, nat_le, refl, sym, ap, subst, ◌∙◌}
-use Rattle.std.specs.Prelude.{IsPermutation, IsTrue, Option, Some, if◌then◌else◌}
-use Rattle.std.specs.List.{find}
+use Rattle.std.proofs.Common.{◌≡◌, ℕ, ◌+◌, ◌%◌, ◌<◌, List, Bool, not, ◌==◌, ◌&&◌, nat_le, refl, sym, ap, subst, ◌∙◌}
+use Rattle.std.specs.Prelude.{IsPermutation, IsTrue}
 use Rattle.std.proofs.lemmas.List.Sorted.{IsPermutation-refl, IsPermutation-sym, IsPermutation-trans, IsPermutation-cons, All-permutation, length_permutation, list_any-IsPermutation}
-use Rattle.vk_model.specs.Memory.Suballocation.{Taken, Request, IsSound, IsTakenAt, IsLargestFree, conflict, ranges_meet, is_free, taken_at}
+use Rattle.vk_model.specs.Memory.Suballocation.{Taken, Request, IsSound, conflict, taken_at}
 use Rattle.vk_model.specs.Memory.LinearBlocks.{others}
-use Rattle.vk_model.specs.Memory.Room.{Block, General, Stack, BlockHolds, fits, is_none_left, lowest}
+use Rattle.vk_model.specs.Memory.Room.{Block, General, Stack, BlockHolds, fits, is_none_left}
 use Rattle.vk_model.specs.Memory.Pools.{BlockGives, IsSoundBlock, block_bytes, block_taken, block_with, block_without}
-use Rattle.vk_model.specs.Basics.{below}
 use Rattle.vk_model.proofs.Memory.Taken.{sound_permuted}
 use Rattle.vma_blocks.specs.Alike.{IsAlike, IsGeneral}
 use Rattle.vma_tlsf.proofs.Permutations.{IsPermutation-filter}
-use Rattle.vma_blocks.proofs.Permutations.{Any-permutation}
 
 -- ---- an equivalence
 
@@ -38,24 +35,11 @@ alike-same k l e = subst (λ (x : Block). IsAlike k x) (sym e) (alike-refl k)
 
 -- ---- places
 
-find_alike : {A : Type 0} (p q : A → Bool) → ((a : A) → q a ≡ p a) → (xs : List A) → find q xs ≡ find p xs
-find_alike p q same [] = refl
-find_alike p q same (x ∷ xs) =
-    ap (λ (b : Bool). if b then Some x else find q xs) (same x) ∙ ap (λ (o : Option _). if p x then Some x else o) (find_alike p q same xs)
-
 module _ (taken more : List Taken) (same : IsPermutation taken more) where
   pub fits_alike : (r : Request) (low high start : ℕ) → fits more r low high start ≡ fits taken r low high start
   fits_alike r low high start =
       ap (λ (b : Bool). start % r.align == 0 && nat_le low start && nat_le (start + r.size) high && not b)
       (sym (list_any-IsPermutation (λ t. conflict r.kind start r.size t.kind t.start t.size) taken more same))
-
-  pub lowest_alike : (r : Request) (low high : ℕ) → lowest more r low high ≡ lowest taken r low high
-  lowest_alike r low high = find_alike (fits taken r low high) (fits more r low high) (λ start. fits_alike r low high start) (below (suc high))
-
-  pub is_free_alike : (size start n : ℕ) → is_free size more start n ≡ is_free size taken start n
-  is_free_alike size start n =
-      ap (λ (b : Bool). nat_le (start + n) size && not b)
-      (sym (list_any-IsPermutation (λ r. ranges_meet r.start r.size start n) taken more same))
 
 -- ---- one block and another that is alike
 
@@ -113,22 +97,3 @@ alike-general (Stack b) (General n more) h g = absurd g
 module _ (k l : Block) (h : IsAlike k l) where
   pub alike-none_left : is_none_left (block_taken l) ≡ is_none_left (block_taken k)
   alike-none_left = ap (λ (n : ℕ). n == 0) (length_permutation (block_taken k) (block_taken l) (alike-taken k l h))
-
-  pub alike-lowest : (r : Request) (low high : ℕ) → lowest (block_taken l) r low high ≡ lowest (block_taken k) r low high
-  alike-lowest r low high = lowest_alike (block_taken k) (block_taken l) (alike-taken k l h) r low high
-
-  pub alike-taken_at : (start : ℕ) → IsTakenAt start (block_taken k) → IsTakenAt start (block_taken l)
-  alike-taken_at start there = Any-permutation (λ r. r.start ≡ start) (block_taken k) (block_taken l) (alike-taken k l h) there
-
-  pub alike-is_free : (start n : ℕ) → is_free (block_bytes l) (block_taken l) start n ≡ is_free (block_bytes k) (block_taken k) start n
-  alike-is_free start n =
-      ap (λ (m : ℕ). is_free m (block_taken l) start n) (alike-bytes k l h)
-      ∙ is_free_alike (block_taken k) (block_taken l) (alike-taken k l h) (block_bytes k) start n
-
-  pub alike-largest : (largest : ℕ) → IsLargestFree (block_bytes k) (block_taken k) largest → IsLargestFree (block_bytes l) (block_taken l) largest
-  alike-largest largest f =
-      record {
-        start = f.start;
-        free = alike-is_free f.start largest ∙ f.free;
-        most = λ other n free. f.most other n (sym (alike-is_free other n) ∙ free);
-      }

@@ -1,5 +1,5 @@
 -- Ranges that follow one another, on pages of their own where their kinds differ.
-use Rattle.std.proofs.Common.{◌≡◌, ℕ, ◌+◌, ◌-◌, ◌*◌, ◌/◌, ◌<◌, ◌≤◌, Bool, true, false, ◌&&◌, not, refl, ◌∙◌, arith, inl, inr}
+use Rattle.std.proofs.Common.{◌≡◌, ℕ, ◌+◌, ◌-◌, ◌*◌, ◌/◌, ◌<◌, ◌≤◌, Bool, true, false, refl, ◌∙◌, arith, inl, inr}
 use Rattle.std.specs.Prelude.{Some, if◌then◌else◌}
 use Rattle.std.proofs.lemmas.Bool.{and_left, and_right, and_from, or_from, or_parts, le-ltb, lt-leb, le-leb, lt-ltb, both_ways, cases_Bool, cases_lt}
 use Rattle.vk_model.specs.declared.resource.Kind.{Kind}
@@ -7,17 +7,13 @@ use Rattle.vk_model.specs.declared.resource.Kind.TheVariants as kind
 use Rattle.vk_model.specs.Basics.{round_up}
 use Rattle.vk_model.specs.Memory.Suballocation.{Taken, IsApart, same_kind, share_page}
 use Rattle.vma_linear.specs.Inner.Gaps.{free_from, free_to}
+use Rattle.vk_model.proofs.Lists.Truths.{only_if_not, if_not}
+use Rattle.vk_model.proofs.Memory.Taken.{same_kind_turned}
 
 -- one range ends before the other, and on an earlier page where their kinds differ
 pub record Follows (t u : Taken) : Type 0 where
   pub after : t.start + t.size ≤ u.start
   pub pages : same_kind t.kind u.kind ≡ false → (t.start + t.size - 1) / 1024 < u.start / 1024
-
-same_turned : (k l : Kind) → same_kind k l ≡ same_kind l k
-same_turned kind.Linear kind.Linear = refl
-same_turned kind.Linear kind.Optimal = refl
-same_turned kind.Optimal kind.Linear = refl
-same_turned kind.Optimal kind.Optimal = refl
 
 same_third : (k l m : Kind) → same_kind k m ≡ false → same_kind l m ≡ true → same_kind k l ≡ false
 same_third kind.Linear kind.Linear kind.Linear e f = e
@@ -31,20 +27,16 @@ same_third kind.Optimal kind.Optimal kind.Optimal e f = e
 
 -- ---- following is being apart
 
-page_free : (same page : Bool) → (same ≡ false → page ≡ false) → (not same && page) ≡ false
-page_free true page h = refl
-page_free false page h = h refl
-
 pub follows_apart : (t u : Taken) → Follows t u → IsApart t u
 follows_apart t u f =
     let after = f.after in
     or_from _ _ (and_right _ _ (le-ltb u.start (t.start + t.size) after))
-    (page_free (same_kind t.kind u.kind) _ (λ differ. and_right _ _ (lt-leb (u.start / 1024) ((t.start + t.size - 1) / 1024) (f.pages differ))))
+    (only_if_not (same_kind t.kind u.kind) _ (λ differ. and_right _ _ (lt-leb (u.start / 1024) ((t.start + t.size - 1) / 1024) (f.pages differ))))
 
 pub follows_apart_turned : (t u : Taken) → Follows t u → IsApart u t
 follows_apart_turned t u f =
     or_from _ _ (and_left _ _ (and_right _ _ (le-ltb u.start (t.start + t.size) f.after)))
-    (page_free (same_kind u.kind t.kind) _ (λ differ. and_left _ _ (and_right _ _ (lt-leb (u.start / 1024) ((t.start + t.size - 1) / 1024) (f.pages (same_turned t.kind u.kind ∙ differ))))))
+    (only_if_not (same_kind u.kind t.kind) _ (λ differ. and_left _ _ (and_right _ _ (lt-leb (u.start / 1024) ((t.start + t.size - 1) / 1024) (f.pages (same_kind_turned t.kind u.kind ∙ differ))))))
 
 apart_pages : (t u : Taken) → 0 < t.size → 0 < u.size → t.start + t.size ≤ u.start → share_page t.start t.size u.start u.size ≡ false → (t.start + t.size - 1) / 1024 < u.start / 1024
 apart_pages t u some more after none = elim (cases_lt ((t.start + t.size - 1) / 1024) (u.start / 1024)) [
@@ -62,20 +54,16 @@ apart_pages_turned t u some more after none = elim (cases_lt ((t.start + t.size 
       absurd (both_ways _ none (and_from _ _ (and_from _ _ (and_from _ _ (lt-ltb 0 u.size more) (lt-ltb 0 t.size some)) (le-leb _ _ shared)) (le-leb _ _ first)))
 ]
 
-no_page : (same page : Bool) → (not same && page) ≡ false → same ≡ false → page ≡ false
-no_page true page h e = absurd cc
-no_page false page h e = h
-
 pub apart_follows : (t u : Taken) → 0 < t.size → 0 < u.size → t.start + t.size ≤ u.start → IsApart t u → Follows t u
 apart_follows t u some more after apart = record {
   after = after;
-  pages = λ differ. apart_pages t u some more after (no_page (same_kind t.kind u.kind) _ (or_parts _ _ apart).1 differ);
+  pages = λ differ. apart_pages t u some more after (if_not (same_kind t.kind u.kind) _ (or_parts _ _ apart).1 differ);
 }
 
 pub apart_follows_turned : (t u : Taken) → 0 < t.size → 0 < u.size → t.start + t.size ≤ u.start → IsApart u t → Follows t u
 apart_follows_turned t u some more after apart = record {
   after = after;
-  pages = λ differ. apart_pages_turned t u some more after (no_page (same_kind u.kind t.kind) _ (or_parts _ _ apart).1 (same_turned u.kind t.kind ∙ differ));
+  pages = λ differ. apart_pages_turned t u some more after (if_not (same_kind u.kind t.kind) _ (or_parts _ _ apart).1 (same_kind_turned u.kind t.kind ∙ differ));
 }
 
 pub follows_trans : (t u v : Taken) → 0 < u.size → Follows t u → Follows u v → Follows t v

@@ -1,8 +1,8 @@
 -- The ranges of a list of slots, when slots are added, dropped and given back.
-use Rattle.std.proofs.Common.{◌≡◌, ℕ, zero, suc, ◌+◌, ◌<◌, ◌≤◌, List, [], ◌∷◌, ◌++◌, map, length, get_or, take, drop, set, Bool, true, false, not, refl, ap, sym, ◌∙◌, arith, cond, inl, inr}
+use Rattle.std.proofs.Common.{◌≡◌, ℕ, zero, suc, ◌+◌, ◌<◌, ◌≤◌, List, [], ◌∷◌, ◌++◌, map, length, get_or, take, set, Bool, true, false, not, refl, ap, sym, ◌∙◌, arith, cond, inl, inr}
 use Rattle.std.specs.Prelude.{Option, Some}
 use Rattle.std.specs.List.{filter}
-use Rattle.std.proofs.lemmas.List.{map-append, get_or_default, take_more, drop_more, append-nil}
+use Rattle.std.proofs.lemmas.List.{map-append, get_or_default, take_more, append-nil}
 use Rattle.std.proofs.lemmas.List.Elements.{filter-append}
 use Rattle.std.proofs.lemmas.Bool.{eq-eqb, ne_eqb, cases_lt}
 use Rattle.vk_model.specs.Memory.Suballocation.{Taken}
@@ -146,9 +146,3 @@ pub more_dead : (xs : List Slot) (i : ℕ) (d : Slot) → i < length xs → (get
 more_dead xs i d there dead =
     ap ranges_of (take_more xs i d there) ∙ ranges-append (take i xs) (get_or xs i d ∷ []) ∙ ap (λ ts. ranges_of (take i xs) ++ ts) (dead_first (get_or xs i d) [] dead)
     ∙ append-nil (ranges_of (take i xs))
-
-pub next_live : (xs : List Slot) (i : ℕ) (d : Slot) → i < length xs → (get_or xs i d).live ≡ true → ranges_of (drop i xs) ≡ range_of (get_or xs i d) ∷ ranges_of (drop (i + 1) xs)
-next_live xs i d there live = ap ranges_of (drop_more xs i d there) ∙ live_first (get_or xs i d) (drop (i + 1) xs) live
-
-pub next_dead : (xs : List Slot) (i : ℕ) (d : Slot) → i < length xs → (get_or xs i d).live ≡ false → ranges_of (drop i xs) ≡ ranges_of (drop (i + 1) xs)
-next_dead xs i d there dead = ap ranges_of (drop_more xs i d there) ∙ dead_first (get_or xs i d) (drop (i + 1) xs) dead

@@ -10,9 +10,9 @@ use Rattle.vma_pools.specs.declared.pool.PoolPlace.{PoolPlace}
 use Rattle.vma_pools.specs.declared.allocations.Allocation.{Allocation}
 use Rattle.vma_pools.specs.declared.allocations.Home.{Home}
 use Rattle.vma_pools.specs.declared.allocations.Home.TheVariants as home
-use Rattle.vma_pools.specs.Pools.{Kept, HasTaken, Loses, IsMemoryOf}
+use Rattle.vma_pools.specs.Pools.{Kept, Loses, IsMemoryOf}
 use Rattle.vma_pools.specs.Ranges.{HasRange}
-use Rattle.vma_pools.specs.State.{PoolsState, pool_at, allocation_at, shared_place, reserved_place, held_place, start_of, range_at, IsHeld, ArePools, ArePlacesApart, Backs, IfLive, IfKept, IsSpotOf, LosesBlock, IsEnded}
+use Rattle.vma_pools.specs.State.{PoolsState, pool_at, allocation_at, shared_place, reserved_place, held_place, range_at, IsHeld, ArePools, ArePlacesApart, Backs, IfLive, IfKept, IsSpotOf, LosesBlock, IsEnded}
 use Rattle.vma_pools.proofs.NumberLemmas.{at-below, found-at}
 use Rattle.vma_pools.proofs.RangeLemmas.{ranges-apart}
 use Rattle.vma_pools.proofs.StateLemmas.{some-is}
@@ -42,9 +42,6 @@ module _ (s : PoolsState) (h : ArePools s) (i : ℕ) (a : Allocation) (live : al
 
     pub found-range : (k : Kept) → o ≡ Some k → HasRange k.pool place.block (range_at place.start a.asked)
     found-range k some = subst (λ (l : Kept). HasRange l.pool place.block (range_at place.start a.asked)) (some-is its-pool.0 k (sym its-pool.1 ∙ found-pool k some)) its-pool.2
-
-pub range-taken : (p : Pool) (place : PoolPlace) (t : Taken) → t.start ≡ place.start → HasRange p place.block t → HasTaken p (start_of place)
-range-taken p place t starts has = (has.there.0, has.block, has.there.1, has.there.2, (has.number, (has.range.0, t, has.range.1, has.range.2, starts)))
 
 pub range-block : (p : Pool) (n : ℕ) (t : Taken) → HasRange p n t → Any (λ b. b.number ≡ n) p.blocks
 range-block p n t has = (has.there.0, has.block, has.there.1, has.there.2, has.number)

@@ -17,9 +17,6 @@ pub record IsLargestTo {B : Type 0} (block : B → Block) (xs : List (Held B)) (
   pub found : (largest ≡ 0) ⊎ ((k : ℕ) × (x : Held B) × (k < length xs) × (get_or xs k x ≡ x) × (start : ℕ) × IsTrue (is_free (block_bytes (block x.block)) (block_taken (block x.block)) start largest))
   pub most : (k : ℕ) (d : Held B) (start n : ℕ) → k < i → IsTrue (is_free (block_bytes (block (get_or xs k d).block)) (block_taken (block (get_or xs k d).block)) start n) → n ≤ largest
 
-pub largest-first : {B : Type 0} (block : B → Block) (xs : List (Held B)) → IsLargestTo block xs 0 0
-largest-first block xs = record { found = inl refl; most = λ k d start n lt free. absurd (omega (arith, lt)) }
-
 pub largest-next : {B : Type 0} (block : B → Block) (xs : List (Held B)) (i m n l : ℕ) (x : Held B) → i < length xs → x ≡ get_or xs i x → IsLargestTo block xs i m → IsLargestFree (block_bytes (block x.block)) (block_taken (block x.block)) n
     → ((m < n) × (l ≡ n)) ⊎ ((n ≤ m) × (l ≡ m)) → IsLargestTo block xs (i + 1) l
 largest-next {B} block xs i m n l x lt is to free which =

@@ -5,14 +5,13 @@ use Rattle.std.specs.List.{filter}
 use Rattle.std.proofs.lemmas.List.{length-map, get_or_default}
 use Rattle.std.proofs.lemmas.List.Elements.{All-nil, All-cons, All-head, All-tail, All-map}
 use Rattle.vk_model.specs.declared.resource.PoolInfo.{PoolInfo}
-use Rattle.vk_model.specs.Memory.Suballocation.{Request, IsTakenAt}
+use Rattle.vk_model.specs.Memory.Suballocation.{Request}
 use Rattle.vk_model.specs.Memory.Room.{Block, Heaps, BlockHolds, NoRoomInPool, no_object}
 use Rattle.vk_model.specs.Memory.MoveTargets.{BlockStart}
-use Rattle.vk_model.specs.Memory.Pools.{PoolBlock, Pool, GivesFrom, Gives, IsPool, IsSoundBlock, block_taken, block_with, block_without, has_some_taken, in_block, new_block, pool_with, pool_without, state_of, with_change}
+use Rattle.vk_model.specs.Memory.Pools.{PoolBlock, Pool, GivesFrom, Gives, IsPool, IsSoundBlock, block_with, block_without, has_some_taken, in_block, new_block, pool_with, pool_without, state_of, with_change}
 use Rattle.vma_blocks.specs.Alike.{IsAlike}
-use Rattle.vma_blocks.proofs.AlikeLemmas.{alike-refl, alike-sym, alike-same, alike-trans, alike-gives, alike-holds, alike-with, alike-without, alike-sound, alike-none_left, alike-taken_at}
+use Rattle.vma_blocks.proofs.AlikeLemmas.{alike-refl, alike-sym, alike-same, alike-trans, alike-gives, alike-holds, alike-with, alike-without, alike-sound, alike-none_left}
 use Rattle.vma_pools.specs.Alike.{IsAlikeBlock, AreAlike, IsAlikePool}
-use Rattle.vma_pools.specs.Pools.{HasTaken}
 
 -- ---- an equivalence
 
@@ -146,11 +145,6 @@ module _ (p q : Pool) (h : IsAlikePool p q) where
             ap (λ (n : ℕ). nat_le q.info.block_limit n || no_object heaps q.info.memory_type q.info.block_size) long
             ∙ ap (λ (info : PoolInfo). nat_le info.block_limit (length (state_of p).blocks) || no_object heaps info.memory_type info.block_size) h.info ∙ none.no_new;
       }
-
-  pub alike-has_taken : (s : BlockStart) → HasTaken p s → HasTaken q s
-  alike-has_taken s a =
-      any-alike (λ b. (b.number ≡ s.block) × IsTakenAt s.start (block_taken b.block)) (λ b. (b.number ≡ s.block) × IsTakenAt s.start (block_taken b.block))
-      (λ b c i t. (i.0 ∙ t.0, alike-taken_at b.block c.block i.1 s.start t.1)) p.blocks q.blocks h.blocks a
 
   pub alike-pool : IsPool p → IsPool q
   alike-pool is =

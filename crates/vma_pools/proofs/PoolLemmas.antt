@@ -1,7 +1,7 @@
 -- A pool when the first of its blocks that holds a request has given it a place.
 use Rattle.std.proofs.Common.{◌≡◌, ℕ, zero, suc, ◌+◌, ◌<◌, List, [], ◌∷◌, ◌++◌, length, get_or, set, Bool, true, false, ◌==◌, refl, sym, ap, subst, ◌∙◌, arith, inl, inr}
 use Rattle.std.specs.Prelude.{Some, All, AllPairs, if◌then◌else◌}
-use Rattle.std.proofs.lemmas.List.Elements.{All-nil, All-cons, All-head, All-tail}
+use Rattle.std.proofs.lemmas.List.Elements.{All-head, All-tail}
 use Rattle.std.proofs.lemmas.List.{map-append, length-map, length-set, get_or-set_same}
 use Rattle.std.proofs.lemmas.Bool.{ne_eqb, eq-eqb}
 use Rattle.vk_model.specs.declared.resource.PoolInfo.{PoolInfo}
@@ -91,10 +91,6 @@ module _ (p : Pool) (h : IsPool p) (new : List PoolBlock) (r : Request) (upper :
         pool = subst (λ (x : BlockStart). IsAlikePool (pool_with p r upper x) (record p { blocks = new })) (sym is) pool-is;
         memories = e;
       }
-
-pub none-holds : (bs : List PoolBlock) (r : Request) (upper : Bool) → NoneBefore bs r upper (length bs) → All (λ b. BlockHolds b.block r upper → ⊥) bs
-none-holds [] r upper none = All-nil (λ b. BlockHolds b.block r upper → ⊥)
-none-holds (b ∷ bs) r upper none = All-cons (λ c. BlockHolds c.block r upper → ⊥) b bs (none 0 (omega arith)) (none-holds bs r upper (λ k less. none (suc k) (omega (arith, less))))
 
 -- ---- the same of the blocks that are held
 

@@ -3,7 +3,7 @@ use Rattle.std.proofs.Common.{◌≡◌, ℕ, ◌+◌, ◌<◌, ◌≤◌, List,
 use Rattle.std.specs.Prelude.{All, if◌then◌else◌}
 use Rattle.std.proofs.lemmas.List.Elements.{All-nil, All-cons, All-head, All-tail, All-map}
 use Rattle.std.proofs.lemmas.List.{length-map}
-use Rattle.std.proofs.lemmas.Bool.{cases_lt}
+use Rattle.std.proofs.lemmas.Bool.{cases_lt, or_left, or_right}
 use Rattle.vk_model.specs.declared.resource.PoolInfo.{PoolInfo}
 use Rattle.vk_model.specs.Memory.Suballocation.{Request}
 use Rattle.vk_model.specs.Memory.Room.{BlockHolds, NoRoomInPool, no_object}
@@ -36,14 +36,6 @@ module _ (m : MemoryState) (t size : ℕ) where
   pub object-full : no_object (heaps m) t size ≡ true → IsFull m t size
   object-full e = true-or (heap_size m t) (sizes_on (on_first t) m.objects + size) (live_count m.objects) (sym same ∙ e)
 
--- one of two tests passes
-or-left : (a b : Bool) → a ≡ true → (a || b) ≡ true
-or-left a b e = ap (λ (v : Bool). v || b) e
-
-or-right : (a b : Bool) → b ≡ true → (a || b) ≡ true
-or-right true b e = refl
-or-right false b e = e
-
 pub unmapped : {A B : Type 0} (P : B → Type 0) (f : A → B) (xs : List A) → All P (map f xs) → All (λ x. P (f x)) xs
 unmapped P f [] all = All-nil (λ x. P (f x))
 unmapped P f (x ∷ xs) all = All-cons (λ y. P (f y)) x xs (All-head P (f x) (map f xs) all) (unmapped P f xs (All-tail P (f x) (map f xs) all))
@@ -69,7 +61,7 @@ module _ (p : Pool) (m : MemoryState) (r : Request) (upper : Bool) where
   at-limit none e =
       record {
         none_holds = none-in none;
-        no_new = or-left (nat_le p.info.block_limit (length (state_of p).blocks)) (no_object (heaps m) p.info.memory_type p.info.block_size) (ap (λ (n : ℕ). nat_le p.info.block_limit n) long ∙ e);
+        no_new = or_left (nat_le p.info.block_limit (length (state_of p).blocks)) (no_object (heaps m) p.info.memory_type p.info.block_size) (ap (λ (n : ℕ). nat_le p.info.block_limit n) long ∙ e);
       }
 
   -- no memory object can be made
@@ -77,7 +69,7 @@ module _ (p : Pool) (m : MemoryState) (r : Request) (upper : Bool) where
   heap-full none full =
       record {
         none_holds = none-in none;
-        no_new = or-right (nat_le p.info.block_limit (length (state_of p).blocks)) (no_object (heaps m) p.info.memory_type p.info.block_size) (full-object m p.info.memory_type p.info.block_size full);
+        no_new = or_right (nat_le p.info.block_limit (length (state_of p).blocks)) (no_object (heaps m) p.info.memory_type p.info.block_size) (full-object m p.info.memory_type p.info.block_size full);
       }
 
   -- a block that the pool has gave a place

@@ -1,5 +1,5 @@
 -- Conflicts of ranges in a block that is sound.
-use Rattle.std.proofs.Common.{◌≡◌, ℕ, zero, suc, ◌+◌, ◌-◌, ◌/◌, ◌<◌, ◌≤◌, ◌⊎◌, inl, inr, Bool, true, false, ◌||◌, ◌&&◌, not, List, [], ◌∷◌, ◌++◌, Option, Some, refl, ap, sym, ◌∙◌, arith}
+use Rattle.std.proofs.Common.{◌≡◌, ℕ, zero, suc, ◌+◌, ◌-◌, ◌/◌, ◌<◌, ◌≤◌, ◌⊎◌, inl, inr, Bool, true, false, ◌&&◌, not, List, [], ◌∷◌, ◌++◌, Option, Some, refl, ap, sym, ◌∙◌, arith}
 use Rattle.std.specs.Prelude.{nat_lt, nat_le}
 use Rattle.std.specs.List.{list_any}
 use Rattle.std.proofs.lemmas.List.Folds.{list_any-append}
@@ -16,6 +16,7 @@ use Rattle.vma_tlsf.specs.Block.{is_sound}
 use Rattle.vma_tlsf.specs.Inner.Chain.{Range, range_in, seen, taken_here, taken_by, taken_in}
 use Rattle.vma_tlsf.specs.Inner.Wants.{state_of}
 use Rattle.vma_tlsf.specs.Inner.Fits.{is_other}
+use Rattle.std.proofs.Math.Bool.{or-false}
 
 -- ---- truths
 
@@ -29,10 +30,6 @@ and4_last true true true d e = e
 and4_last true true false d e = refl
 and4_last true false c d e = refl
 and4_last false b c d e = refl
-
-or_true : (a b : Bool) → b ≡ true → (a || b) ≡ true
-or_true true b e = refl
-or_true false b e = e
 
 -- ---- two ranges
 
@@ -118,12 +115,8 @@ state_cases state.Free = inl refl
 state_cases state.Linear = inr (kind.Linear, refl)
 state_cases state.Optimal = inr (kind.Optimal, refl)
 
-or_false : (a : Bool) → (a || false) ≡ a
-or_false true = refl
-or_false false = refl
-
 pub one_any : (p : Taken → Bool) (q : Range) (l : Kind) → q.state ≡ state_of l → list_any p (taken_here (Some q)) ≡ p (record { start = q.start; size = q.size; kind = l })
-one_any p q l e = ap (list_any p) (takes q l e) ∙ or_false (p (record { start = q.start; size = q.size; kind = l }))
+one_any p q l e = ap (list_any p) (takes q l e) ∙ or-false (p (record { start = q.start; size = q.size; kind = l }))
 
 -- of two slots, the ranges that are taken don't conflict
 sound_rest : (whole : ℕ) (c ts : List Taken) → is_sound whole (c ++ ts) ≡ true → is_sound whole ts ≡ true

@@ -1,5 +1,5 @@
 -- Giving a taken range back, as its steps make it.
-use Rattle.std.proofs.Common.{◌≡◌, ℕ, ◌+◌, ◌<◌, ◌^◌, inl, inr, List, Option, Some, None, get_or, ap, sym, ◌∙◌, arith}
+use Rattle.std.proofs.Common.{◌≡◌, ℕ, ◌+◌, ◌<◌, inl, inr, List, Option, Some, None, get_or, ap, sym, ◌∙◌, arith}
 use Rattle.std.proofs.lemmas.Bool.{cases_eq}
 use Rattle.vk_nodes.specs.declared.node.Node.{Node}
 use Rattle.vk_nodes.specs.declared.node.RangeState.{RangeState}
@@ -17,9 +17,6 @@ use Rattle.vma_tlsf.proofs.Cuts.{next_apart, next_two_apart, before_not_free, se
 -- the slots have the ranges of a block also after a change of the lists by size
 pub has_alike : (a b : List (Option Node)) → AreAlike a b → HasChain a → HasChain b
 has_alike a b alike has = (has.0, has.1, has.2, chain_alike has.0 has.1 (seen a) (seen b) alike.ranges has.3)
-
-pub taken_alike : (a b : List (Option Node)) (slot : ℕ) → AreAlike a b → IsTakenIn a slot → IsTakenIn b slot
-taken_alike a b slot alike t = record { range = t.range; there = alike.ranges slot ∙ t.there; taken = t.taken }
 
 -- the range after a taken one, and the one before
 pub after_held_in : (a : List (Option Node)) (slot j : ℕ) (node : Node) → HasChain a → IsTakenIn a slot → get_or a slot None ≡ Some node → node.after ≡ Some j → IsHeld a j
@@ -55,17 +52,6 @@ module _ (a : List (Option Node)) (has : HasChain a) (slot gone : ℕ) (r z : Ra
   merge_some =
       let some = (has.3.linked slot r here).some in
       let same : node.size ≡ r.size = ap (λ v. v.size) (node_range a slot node r node_at here) in
-      omega arith
-
-  pub merge_bounds : node.size + last.size < 2 ^ 64
-  merge_bounds =
-      let q = (has.3.linked slot r here).after gone on in
-      let z_starts : q.range.start ≡ z.start = ap (λ v. v.start) (some_same q.range z (sym q.there ∙ there)) in
-      let touches = q.touches in
-      let inside = (has.3.linked gone z there).inside in
-      let bound = has.2 in
-      let same : node.size ≡ r.size = ap (λ v. v.size) (node_range a slot node r node_at here) in
-      let same_last : last.size ≡ z.size = ap (λ v. v.size) (node_range a gone last z last_at there) in
       omega arith
 
   -- what is taken beside two joined ranges

@@ -50,9 +50,6 @@ low_else f r k e = sym (cond_false (other_at f r.before k) ((r.start + 1023) / 1
 pub high_if : (f : ℕ → Option Range) (r : Range) (k : Kind) → other_at f r.after k ≡ true → (r.start + r.size) / 1024 * 1024 ≡ high_of f r k
 high_if f r k e = sym (cond_true (other_at f r.after k) ((r.start + r.size) / 1024 * 1024) (r.start + r.size) e)
 
-pub high_else : (f : ℕ → Option Range) (r : Range) (k : Kind) → other_at f r.after k ≡ false → r.start + r.size ≡ high_of f r k
-high_else f r k e = sym (cond_false (other_at f r.after k) ((r.start + r.size) / 1024 * 1024) (r.start + r.size) e)
-
 pub low_bound : (f : ℕ → Option Range) (r : Range) (k : Kind) → low_of f r k ≤ r.start + 1023
 low_bound f r k = elim (bool_cases (other_at f r.before k)) [
   | inl e ↦ rw (sym (low_if f r k e)) (omega arith)

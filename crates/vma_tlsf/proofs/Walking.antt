@@ -10,7 +10,7 @@ use Rattle.vk_model.specs.Memory.Suballocation.{Request, conflict}
 use Rattle.vk_model.specs.Memory.Room.{fits}
 use Rattle.vma_tlsf.specs.Inner.Chain.{range, seen, taken_in, taken_here}
 use Rattle.vma_tlsf.specs.Inner.Changes.{HasChain}
-use Rattle.vma_tlsf.specs.Inner.Fits.{HasBlock, HasBlockFrom, IsLowestIn, NoneBelow, IsLive, StartsAt, IsSlotAt}
+use Rattle.vma_tlsf.specs.Inner.Fits.{HasBlockFrom, IsLowestIn, NoneBelow, IsLive, StartsAt, IsSlotAt}
 use Rattle.vma_tlsf.proofs.Slots.{node_of}
 use Rattle.vma_tlsf.proofs.Splits.{some_same, none_some}
 use Rattle.vma_tlsf.proofs.Cuts.{node_seen, node_range}
@@ -137,6 +137,3 @@ begin_at nodes root limit node has here =
 
 pub from_chain : (nodes : List (Option Node)) (root limit : ℕ) → HasBlockFrom nodes root limit → HasChain nodes
 from_chain nodes root limit has = (has.0, root, has.1.bound, has.1.chain)
-
-pub from_block : (nodes : List (Option Node)) (root limit : ℕ) → HasBlockFrom nodes root limit → HasBlock nodes limit
-from_block nodes root limit has = (has.0, root, has.1, has.2)

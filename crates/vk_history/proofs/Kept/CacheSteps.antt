@@ -40,6 +40,7 @@ use Rattle.vk_touches.proofs.Touching.Remembering.{touched_by_flush, touched_by_
 use Rattle.vk_history.proofs.Kept.NextPoint.{there_on_host}
 use Rattle.vk_history.proofs.Kept.ContentSteps.{one_changed, next_of}
 use Rattle.vk_history.proofs.Making.Numbers.{byte_of_buffer, buffer_is_resource}
+use Rattle.std.proofs.Math.Bool.{and-false}
 
 -- ---- which bytes are reached
 
@@ -50,10 +51,6 @@ module _ (b o : ℕ) (n : Length) where
   in_other : (r : ℕ) (c : Byte) → (r == b) ≡ false → resource_at c ≡ r → reaches b o n c ≡ false
   in_other r (in_buffer c k) e own = rw (turned_about b c, own, e) refl
   in_other r (in_image i l a x y p) e own = refl
-
-if_both : (t u d : Bool) → (if t then (if u then false else d) else d) ≡ (if t && u then false else d)
-if_both true u d = refl
-if_both false u d = refl
 
 -- ---- a flush
 
@@ -79,10 +76,6 @@ module _ (past : Past) (p : Point) (clean : fault (p ∷ past) ≡ None) (b o : 
     go true = ap (λ (t : Bool). if t then false else (world past).dirty c) e
     go false = refl
 
-  never : (t : Bool) → (t && false) ≡ false
-  never true = refl
-  never false = refl
-
   flush_there : is_some (buffer past b) ≡ true
   flush_there = there_on_host past p clean (entry.Flush b o n) is b (contains-head _ [])
 
@@ -96,7 +89,7 @@ module _ (past : Past) (p : Point) (clean : fault (p ∷ past) ≡ None) (b o : 
         unmade = λ none. ap is_some (flush_made r) ∙ none;
         owner = flush_owned r;
         defined = λ c own. flush_valued c;
-        dirty = λ c own. flush_dirty c false (in_other b o n r c e own) ∙ ap (λ (t : Bool). if t then false else (world past).dirty c) (never (is_cached past b));
+        dirty = λ c own. flush_dirty c false (in_other b o n r c e own) ∙ ap (λ (t : Bool). if t then false else (world past).dirty c) (and-false (is_cached past b));
         touches = λ c own. touched_by_flush past p c b o n is false (in_other b o n r c e own);
       })
 
@@ -131,10 +124,6 @@ module _ (past : Past) (p : Point) (clean : fault (p ∷ past) ≡ None) (b o : 
   none_lost : (t d : Bool) → (t && false && d) ≡ false
   none_lost true d = refl
   none_lost false d = refl
-
-  none_clean : (t : Bool) → (t && false) ≡ false
-  none_clean true = refl
-  none_clean false = refl
 
   module _ (x : ResourceAccess) (of : x.bytes ≡ bytes.Buffer b) (reads : x.access ≡ access.Read) (frontier : IsFrontier x.frontier.now (nodes past)) (new_node : IsNewNode (nodes past) (next_node past p (act_next p.action)) x.new_node.now) where
     -- what is answered of a byte is whether the invalidation sees its last write
@@ -192,6 +181,6 @@ module _ (past : Past) (p : Point) (clean : fault (p ∷ past) ≡ None) (b o : 
           unmade = λ none. ap is_some (invalidation_made r) ∙ none;
           owner = invalidation_owned r;
           defined = λ c own. invalidation_valued c false (in_other b o n r c e own) ∙ ap (λ (t : Bool). if t then false else has_value (world past) c) (none_lost (is_cached past b) ((world past).dirty c));
-          dirty = λ c own. invalidation_dirty c false (in_other b o n r c e own) ∙ ap (λ (t : Bool). if t then false else (world past).dirty c) (none_clean (is_cached past b));
+          dirty = λ c own. invalidation_dirty c false (in_other b o n r c e own) ∙ ap (λ (t : Bool). if t then false else (world past).dirty c) (and-false (is_cached past b));
           touches = λ c own. touched_by_invalidation past p c b o n is false false (in_other b o n r c e own) (λ bad. absurd cc);
         })

@@ -1,5 +1,5 @@
 -- What becomes of the bytes of ranges of an image, one range after another.
-use Rattle.std.proofs.Common.{min, ⊎_elim, ◌≡◌, ◌<◌, ◌+◌, ◌*◌, ℕ, List, [], ◌∷◌, length, slice_get, take, get_or, Bool, true, false, ◌||◌, refl, ap, sym, ◌∙◌, arith, Option, Some, None}
+use Rattle.std.proofs.Common.{min, ⊎_elim, ◌≡◌, ◌<◌, ◌+◌, ◌*◌, ℕ, List, [], length, slice_get, take, get_or, Bool, true, false, ◌||◌, refl, ap, sym, ◌∙◌, arith, Option, Some, None}
 use Rattle.std.specs.Prelude.{if◌then◌else◌, nat_le, nat_lt}
 use Rattle.std.proofs.lemmas.Bool.{cases_lt, and_parts, and_from, leb-true, ltb-true, le-leb, lt-ltb}
 use Rattle.std.proofs.lemmas.Option.{slice_get_past}
@@ -7,8 +7,7 @@ use Rattle.vk_model.proofs.Lists.Truths.{bool_same}
 use Rattle.std.specs.Option.{option_map}
 use Rattle.std.specs.List.{list_any, range_with_len}
 use Rattle.std.proofs.Math.Bool.{or-false}
-use Rattle.std.proofs.lemmas.List.{take_more}
-use Rattle.std.proofs.lemmas.List.Folds.{list_any-append}
+use Rattle.std.proofs.lemmas.List.Folds.{list_any-append, list_any_more}
 use Rattle.vk_model.specs.declared.command.SubresourceRange.{SubresourceRange}
 use Rattle.vk_model.specs.Basics.{below, within}
 use Rattle.vk_model.specs.World.Effect.{in_range}
@@ -55,12 +54,6 @@ assign_next s n v old mid new first next k =
     ∙ assigning_more (has_among s n k) (within (s.first + n * s.step) s.size k) v (slice_get old k)
     ∙ ap (λ (t : Bool). option_map (λ d. if t then v else d) (slice_get old k)) (sym (has_next s n k))
 
-pub assign_none : (s : ByteRanges) (v : Bool) (old : List Bool) (k : ℕ) → slice_get old k ≡ option_map (assigns (has_among s 0) v k) (slice_get old k)
-assign_none s v old k = go (slice_get old k) where
-  go : (o : Option Bool) → o ≡ option_map (λ d. d) o
-  go None = refl
-  go (Some d) = refl
-
 -- one more range that was touched
 pub touch_next : (s : ByteRanges) (n : ℕ) (w : Touch) (t : Spot) (old mid new : List LastTouches)
     → ((k : ℕ) → slice_get mid k ≡ option_map (touching (has_among s n) w t k) (slice_get old k))
@@ -70,12 +63,6 @@ touch_next s n w t old mid new first next k =
     next k ∙ ap (option_map (touching (within (s.first + n * s.step) s.size) w t k)) (first k)
     ∙ touching_more (has_among s n) (within (s.first + n * s.step) s.size) w t k (slice_get old k)
     ∙ ap (λ (b : Bool). option_map (touching (λ k. b) w t k) (slice_get old k)) (sym (has_next s n k))
-
-pub touch_none : (s : ByteRanges) (w : Touch) (t : Spot) (old : List LastTouches) (k : ℕ) → slice_get old k ≡ option_map (touching (has_among s 0) w t k) (slice_get old k)
-touch_none s w t old k = go (slice_get old k) where
-  go : (o : Option LastTouches) → o ≡ option_map (λ d. d) o
-  go None = refl
-  go (Some d) = refl
 
 -- one more that was moved by a transition
 moving_more : (a b : Bool) (t : Spot) (o : Option LastTouches) → option_map (λ d. if b then with_transition d t else d) (option_map (λ d. if a then with_transition d t else d) o) ≡ option_map (λ d. if a || b then with_transition d t else d) o
@@ -118,9 +105,6 @@ transition_within t old new o n low high high_is low_is values k = values k ∙ 
 
 -- ---- ranges of levels and layers, one after another
 
-any_next : {X : Type 0} (f : X → Bool) (xs : List X) (i : ℕ) (d : X) → i < length xs → list_any f (take (i + 1) xs) ≡ (list_any f (take i xs) || f (get_or xs i d))
-any_next f xs i d lt = ap (list_any f) (take_more xs i d lt) ∙ list_any-append f (take i xs) (get_or xs i d ∷ []) ∙ ap (λ (b : Bool). list_any f (take i xs) || b) (or-false (f (get_or xs i d)))
-
 -- no transition
 pub marked_none : (r : SubresourceRange) (s : Spot) (c : ResourceContents) → IsMarked false r s c c
 marked_none r s c = record {
@@ -151,7 +135,7 @@ module _ (rs : List SubresourceRange) (n : ℕ) (r : SubresourceRange) (low : n 
   pub cleared_next : IsCleared (take (n + 1) rs) family s old new
   cleared_next = record {
     hits = λ k. so_far.hits k || next.hits k;
-    reached = λ m is i k lt. rw (so_far.reached m is i k lt, next.reached m (so_far.written.image ∙ is) i k lt) (sym (any_next (λ r. in_range i r (byte_of m i k)) rs n r low));
+    reached = λ m is i k lt. rw (so_far.reached m is i k lt, next.reached m (so_far.written.image ∙ is) i k lt) (sym (list_any_more (λ r. in_range i r (byte_of m i k)) rs n r low));
     written = record {
       defined_size = next.changed.defined_size ∙ so_far.written.defined_size;
       dirty_size = next.changed.dirty_size ∙ so_far.written.dirty_size;

@@ -177,9 +177,6 @@ pub used_at : (f : ℕ) (e : ImageElement) (old mid new : ResourceContents) → 
 used_at f e old mid new changes taken moved past w t good a =
     subst (λ (u : Bool). AreContentsAt new past (if u then transitioned e (used past f e.image w) else w) t e.image) (sym changes) (moved past (used past f e.image w) t good (taken_at past f e.image w t old mid taken a))
 
-pub unused_at : (f : ℕ) (e : ImageElement) (c : ResourceContents) → is_transition e ≡ false → IsUsedByTransition f e c c
-unused_at f e c keeps past w t good a = subst (λ (u : Bool). AreContentsAt c past (if u then transitioned e (used past f e.image w) else w) t e.image) (sym keeps) a
-
 -- what one reads and writes
 pub marked_at : (past : Past) (q : ℕ) (e : ImageElement) (s : Spot) (old new : ResourceContents) → IsMarked (is_transition e && not (is_release q (element.Image e))) e.range s old new → (w : World) (t : Byte → LastTouches) → is_good_image past e.image ≡ true
     → AreContentsAt old past w t e.image → AreContentsAt new past w (touched_by past q (element.Image e) s t) e.image

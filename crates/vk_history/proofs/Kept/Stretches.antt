@@ -52,20 +52,6 @@ option_or-none : {A : Type 0} (x : Option A) → option_or x None ≡ x
 option_or-none None = refl
 option_or-none (Some a) = refl
 
-pub push_start : (old : List Stretch) (xs : List Bool) (g : BufferCopy) (low high : ℕ) (left : List (Piece Bool)) → low ≤ high → AreRunsOf xs low high left → ArePushed old old xs g low high left
-push_start old xs g low high left le runs = record {
-  at = low;
-  above = omega arith;
-  below = le;
-  runs = runs;
-  added = λ e k. sym (ap (option_or (stretch_at old k)) (nothing k) ∙ option_or-none (stretch_at old k));
-} where
-  nothing : (k : ℕ) → found_below xs g (low - low) k ≡ None
-  nothing k = ⊎_elim
-      (λ lt. rw (lt-leb g.destination_offset k lt) refl)
-      (λ ge. rw (le-leb g.destination_offset k ge, le-ltb k (g.destination_offset + (low - low)) (omega arith)) refl)
-      (cases_lt k g.destination_offset)
-
 pub push_next : (now old : List Stretch) (xs : List Bool) (g : BufferCopy) (low high : ℕ) (piece : Piece Bool) (left : List (Piece Bool)) → ArePushed now old xs g low high (piece ∷ left)
     → ArePushed (now ++ record { destination = g.destination_offset; start = piece.start - low; end = piece.end - low; is_defined = piece.value } ∷ []) old xs g low high left
 push_next now old xs g low high piece left h =

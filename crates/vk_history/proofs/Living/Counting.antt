@@ -8,6 +8,7 @@ use Rattle.std.proofs.lemmas.List.Sums.{sum_by-cons}
 use Rattle.vk_model.specs.Basics.{among, some_pair}
 use Rattle.vk_model.proofs.Lists.Members.{contains-head, contains-tail, filter_has, filtered, member_passes, some_member}
 use Rattle.vk_model.proofs.Lists.Truths.{bool_same, clash}
+use Rattle.vk_model.proofs.Lists.Items.{filter_each}
 
 pub count-cons : {A : Type 0} (f : A → Bool) (x : A) (xs : List A) → count_by f (x ∷ xs) ≡ cond (f x) 1 0 + count_by f xs
 count-cons f x xs = sum_by-cons (λ x. cond (f x) 1 0) x xs
@@ -27,11 +28,7 @@ count_same f g (x ∷ xs) same =
     let rest = count_same f g xs (λ y c. same y (contains-tail x xs y c)) in
     count-cons f x xs ∙ ap (λ b. cond b 1 0 + count_by f xs) (same x (contains-head x xs)) ∙ ap (λ n. cond (g x) 1 0 + n) rest ∙ sym (count-cons g x xs)
 
--- a filter that keeps all, and two filters one after the other
-pub all_kept : {A : Type 0} (f : A → Bool) (xs : List A) → ((x : A) → Contains xs x → f x ≡ true) → filter f xs ≡ xs
-all_kept f [] keeps = refl
-all_kept f (x ∷ xs) keeps = rw (keeps x (contains-head x xs)) (ap (λ ys. x ∷ ys) (all_kept f xs (λ y c. keeps y (contains-tail x xs y c))))
-
+-- two filters, one after the other
 pub both_kept : {A : Type 0} (f g h : A → Bool) (xs : List A) → ((x : A) → Contains xs x → h x ≡ (f x && g x)) → filter h xs ≡ filter f (filter g xs)
 both_kept f g h [] same = refl
 both_kept {A} f g h (x ∷ xs) same = rw (same x (contains-head x xs)) (go (f x) refl (g x) (both_kept f g h xs (λ y c. same y (contains-tail x xs y c)))) where
@@ -52,10 +49,6 @@ among_has x xs c = member_passes (λ y. x == y) xs x c (eq-eqb x x refl)
 pub among_from : (x : ℕ) (xs : List ℕ) → among x xs ≡ true → Contains xs x
 among_from x xs h = let some = some_member (λ y. x == y) xs h in rw (eqb-true x some.0 some.2) some.1
 
--- no number is twice in a list
-abbrev pub is_apart : List ℕ → Bool
-is_apart xs = not (some_pair nat_eq xs)
-
 pub apart_filter : (f : ℕ → Bool) (xs : List ℕ) → some_pair nat_eq xs ≡ false → some_pair nat_eq (filter f xs) ≡ false
 apart_filter f [] apart = refl
 apart_filter f (x ∷ xs) apart = let parts = or_parts (among x xs) (some_pair nat_eq xs) apart in go (f x) parts.0 (apart_filter f xs parts.1) where
@@ -69,7 +62,7 @@ apart_end (x ∷ xs) ys apart = apart_end xs ys (or_parts (among x (xs ++ ys)) (
 
 -- what isn't there isn't taken away
 out_kept : (e : ℕ) (xs : List ℕ) → among e xs ≡ false → filter (λ j. not (j == e)) xs ≡ xs
-out_kept e xs out = all_kept (λ j. not (j == e)) xs (λ j c. ap not (false_from_ne_true (j == e) (λ h. clash (rw (← eqb-true j e h) (among_has j xs c)) out)))
+out_kept e xs out = filter_each (λ j. not (j == e)) xs (λ j c. ap not (false_from_ne_true (j == e) (λ h. clash (rw (← eqb-true j e h) (among_has j xs c)) out)))
 
 -- a count when one number is taken away
 module _ (f : ℕ → Bool) (e : ℕ) where
@@ -110,7 +103,7 @@ module _ (f : ℕ → Bool) (e : ℕ) where
 -- a count when several are taken away
 pub all_taken : (f : ℕ → Bool) (es xs : List ℕ) → some_pair nat_eq es ≡ false → some_pair nat_eq xs ≡ false → ((e : ℕ) → Contains es e → f e ≡ true → among e xs ≡ true)
     → count_by f (filter (λ j. not (among j es)) xs) + count_by f es ≡ count_by f xs
-all_taken f [] xs apart lists there = let kept : filter (λ j. true) xs ≡ xs = all_kept (λ j. true) xs (λ j c. refl) in rw kept (omega arith)
+all_taken f [] xs apart lists there = let kept : filter (λ j. true) xs ≡ xs = filter_each (λ j. true) xs (λ j c. refl) in rw kept (omega arith)
 all_taken f (e ∷ es) xs apart lists there =
     let parts = or_parts (among e es) (some_pair nat_eq es) apart in
     let left : List ℕ = filter (λ j. not (among j es)) xs in

@@ -289,8 +289,5 @@ module _ (past : Past) (p : Point) (j : IsJudged (p ∷ past)) where
     pub same_entries : entries (p ∷ past) ≡ entries past
     same_entries = rw quiet refl
 
-    pub same_live : {A : Type 0} (kind : Entry → Option A) → live_of kind (p ∷ past) ≡ live_of kind past
-    same_live kind = rw quiet refl
-
     pub same_made : (i : ℕ) → made (p ∷ past) i ≡ made past i
     same_made i = rw quiet refl

@@ -5,7 +5,7 @@ use Rattle.std.specs.Prelude.{Contains, option_and_then, if◌then◌else◌}
 use Rattle.std.specs.Option.{option_map_or}
 use Rattle.vk_model.specs.declared.entry.Entry.{Entry}
 use Rattle.vk_model.specs.Basics.{holds}
-use Rattle.vk_model.specs.Trace.Point.{Past, Point, Host, host_of}
+use Rattle.vk_model.specs.Trace.Point.{Past, Point, Host}
 use Rattle.vk_model.specs.Trace.Objects.{made, made_by, resource_in, pool_at}
 use Rattle.vk_history.specs.declared.residents.Residents.{Residents}
 use Rattle.vk_history.specs.Residents.{AreResidents, ResideBy, residents_at}
@@ -25,9 +25,6 @@ module _ (past : Past) (p : Point) (old new : Residents) where
     go : (b : Bool) → holds (made_by x) (λ j. r == j) ≡ b → pool_now x r b ≡ Some q → Contains (residents_at new q) r
     go true here at = by.here r q (named (made_by x) r here) at
     go false here at = by.kept q r (are r q at)
-
-  pub quiet_resides : host_of p.action ≡ None → AreResidents old past → AreResidents old (p ∷ past)
-  quiet_resides quiet are r q has = are r q (rw quiet at has)
 
 -- a table of lists where one list is replaced
 module _ {A : Type 0} (items : A → List ℕ) (new old : ℕ → Option A) (id : ℕ) (next : A) (is : (i : ℕ) → new i ≡ (if i == id then Some next else old i)) where

@@ -18,12 +18,6 @@ use Rattle.vk_model.proofs.Lists.Members.{contains-cons, none_in}
 use Rattle.vk_model.proofs.Trace.Structure.{entry_below, is_of_batch}
 use Rattle.vk_history.specs.Ended.{end_at, first_end}
 
--- ids that several entries end one after the other
-pub both_end : (o : Option ℕ) (a b : Bool) (e : ℕ) → option_or (option_or o (if a then Some e else None)) (if b then Some e else None) ≡ option_or o (if a || b then Some e else None)
-both_end (Some n) a b e = refl
-both_end None true b e = refl
-both_end None false b e = refl
-
 -- an id was ended where there is a first end
 pub ended_is : (past : Past) (i : ℕ) → ended past i ≡ is_some (first_end past i)
 ended_is [] i = refl

@@ -1,22 +1,17 @@
 -- Bytes of ranges.
-use Rattle.std.proofs.Common.{◌⊎◌, inl, inr, ◌≡◌, ◌≤◌, ◌<◌, ◌+◌, ◌-◌, ℕ, zero, suc, List, [], ◌∷◌, ◌++◌, map, length, refl, sym, ◌∙◌, ap, Bool, true, false, arith, ◌&&◌, ◌==◌}
+use Rattle.std.proofs.Common.{◌⊎◌, inl, inr, ◌≡◌, ◌≤◌, ◌<◌, ◌+◌, ◌-◌, ℕ, zero, suc, List, [], ◌∷◌, map, length, refl, ◌∙◌, ap, Bool, true, false, arith, ◌&&◌, ◌==◌}
 use Rattle.std.specs.Prelude.{◌||◌, ◌%◌, nat_le, nat_lt}
-use Rattle.std.specs.List.{list_any, range_with_len, enumerate_from, flat_map}
+use Rattle.std.specs.List.{list_any, range_with_len, enumerate_from}
 use Rattle.std.proofs.lemmas.Bool.{cases_lt, and_parts, eqb-true, eq-eqb, leb-true, ltb-true, le-leb, lt-ltb}
-use Rattle.std.proofs.Math.Bool.{or-true, and-false}
-use Rattle.std.proofs.lemmas.List.{map-append}
-use Rattle.std.proofs.lemmas.List.Elements.{filter_map-append}
-use Rattle.std.proofs.lemmas.List.Folds.{list_any-append}
-use Rattle.vk_model.specs.declared.command.BufferCopy.{BufferCopy}
+use Rattle.std.proofs.Math.Bool.{or-true}
 use Rattle.vk_model.specs.declared.command.Cmd.TheVariants as cmd
 use Rattle.vk_model.specs.declared.command.Length.{Length}
 use Rattle.vk_model.specs.Basics.{below, within, byte_of}
 use Rattle.vk_model.specs.World.Bytes.{Byte, in_buffer, same_byte}
-use Rattle.vk_model.specs.World.ByteWrites.{ByteWrite, Value, From, byte_write, byte_writes, copy_writes, buffer_size, fill_size}
+use Rattle.vk_model.specs.World.ByteWrites.{ByteWrite, Value, byte_write, byte_writes, buffer_size, fill_size}
 use Rattle.vk_model.specs.Trace.Point.{Past}
-use Rattle.vk_model.specs.Sync.Access.{is_in, bytes_of, targets, origin, origins}
+use Rattle.vk_model.specs.Sync.Access.{is_in, bytes_of, targets, origins}
 use Rattle.vk_model.proofs.Lists.Members.{any_map}
-use Rattle.vk_touches.specs.TouchedRanges.{reads_at, writes_at}
 use Rattle.vk_model.proofs.Lists.Truths.{bool_same}
 
 -- no number of a range passes
@@ -95,38 +90,3 @@ update-origins past b o bytes = go (enumerate_from 0 bytes) where
 spread : (t a b : Bool) → (t && a || (t && b)) ≡ (t && (a || b))
 spread true a b = refl
 spread false a b = refl
-
-region-origins : (s d : ℕ) (g : BufferCopy) → origins (copy_writes s d g) ≡ bytes_of s g.source_offset g.size
-region-origins s d g = go (below g.size) where
-  go : (ks : List ℕ) → origins (map (λ k. byte_write (in_buffer d (g.destination_offset + k)) (From (in_buffer s (g.source_offset + k)))) ks) ≡ map (λ k. in_buffer s (g.source_offset + k)) ks
-  go [] = refl
-  go (k ∷ ks) = ap (λ (bs : List Byte). in_buffer s (g.source_offset + k) ∷ bs) (go ks)
-
--- a copy writes and reads the bytes of its regions
-pub copy-targets-flat : (s d : ℕ) (gs : List BufferCopy) → targets (flat_map (copy_writes s d) gs) ≡ flat_map (λ g. bytes_of d g.destination_offset g.size) gs
-copy-targets-flat s d [] = refl
-copy-targets-flat s d (g ∷ gs) =
-    map-append (λ (m : ByteWrite). m.to) (copy_writes s d g) (flat_map (copy_writes s d) gs)
-    ∙ ap (λ (bs : List Byte). bs ++ targets (flat_map (copy_writes s d) gs)) (to-map _ (below g.size)) ∙ ap (λ (bs : List Byte). bytes_of d g.destination_offset g.size ++ bs) (copy-targets-flat s d gs)
-
-pub copy-origins-flat : (s d : ℕ) (gs : List BufferCopy) → origins (flat_map (copy_writes s d) gs) ≡ flat_map (λ g. bytes_of s g.source_offset g.size) gs
-copy-origins-flat s d [] = refl
-copy-origins-flat s d (g ∷ gs) =
-    filter_map-append (λ (m : ByteWrite). origin m.source) (copy_writes s d g) (flat_map (copy_writes s d) gs)
-    ∙ ap (λ (bs : List Byte). bs ++ origins (flat_map (copy_writes s d) gs)) (region-origins s d g) ∙ ap (λ (bs : List Byte). bytes_of s g.source_offset g.size ++ bs) (copy-origins-flat s d gs)
-
--- so a byte of a buffer is among those that it writes where a region writes it
-pub copy-targets : (s d : ℕ) (gs : List BufferCopy) (b k : ℕ) → is_in (in_buffer b k) (targets (flat_map (copy_writes s d) gs)) ≡ (b == d && writes_at gs k)
-copy-targets s d [] b k = sym (and-false (b == d))
-copy-targets s d (g ∷ gs) b k =
-    ap (is_in (in_buffer b k)) (copy-targets-flat s d (g ∷ gs)) ∙ list_any-append (same_byte (in_buffer b k)) (bytes_of d g.destination_offset g.size) (flat_map (λ g. bytes_of d g.destination_offset g.size) gs)
-    ∙ ap (λ (bs : List Byte). is_in (in_buffer b k) (bytes_of d g.destination_offset g.size) || is_in (in_buffer b k) bs) (sym (copy-targets-flat s d gs))
-    ∙ rw (byte_in b k d g.destination_offset g.size, copy-targets s d gs b k) (spread (b == d) (within g.destination_offset g.size k) (writes_at gs k))
-
--- and among those that it reads where a region reads it
-pub copy-origins : (s d : ℕ) (gs : List BufferCopy) (b k : ℕ) → is_in (in_buffer b k) (origins (flat_map (copy_writes s d) gs)) ≡ (b == s && reads_at gs k)
-copy-origins s d [] b k = sym (and-false (b == s))
-copy-origins s d (g ∷ gs) b k =
-    ap (is_in (in_buffer b k)) (copy-origins-flat s d (g ∷ gs)) ∙ list_any-append (same_byte (in_buffer b k)) (bytes_of s g.source_offset g.size) (flat_map (λ g. bytes_of s g.source_offset g.size) gs)
-    ∙ ap (λ (bs : List Byte). is_in (in_buffer b k) (bytes_of s g.source_offset g.size) || is_in (in_buffer b k) bs) (sym (copy-origins-flat s d gs))
-    ∙ rw (byte_in b k s g.source_offset g.size, copy-origins s d gs b k) (spread (b == s) (within g.source_offset g.size k) (reads_at gs k))

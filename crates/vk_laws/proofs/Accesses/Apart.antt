@@ -19,14 +19,11 @@ use Rattle.vk_model.specs.World.ByteWrites.{Value, From, ByteWrite, byte_write, 
 use Rattle.vk_model.specs.World.Areas.{Area, Bytes, Texels, areas_meet, source_box, destination_box, areas_read, areas_written}
 use Rattle.vk_model.specs.Sync.Access.{origin}
 use Rattle.vk_model.specs.Rules.Ranges.{command_overlaps}
-use Rattle.vk_model.proofs.Lists.Members.{member_passes, none_in, mapped_from, flat_from, range_from, place_has, map_has}
+use Rattle.vk_model.proofs.Lists.Members.{member_passes, none_in, mapped_from, flat_from, place_has, map_has, below_from}
 use Rattle.vk_model.proofs.Lists.Grids.{At, grid_from}
 use Rattle.vk_model.proofs.World.BytePlaces.{common_meets}
 
 -- ---- members and pairs of a list
-
-below_from : (n k : ℕ) → Contains (below n) k → k < n
-below_from n k c = let r = range_from 0 n k c in let high = r.1 in omega arith
 
 pub pair_of : {X : Type 0} (test : X → X → Bool) (xs : List X) (k l : ℕ) (x y : X) → slice_get xs k ≡ Some x → slice_get xs l ≡ Some y → k < l → IsTrue (test x y) → IsTrue (some_pair test xs)
 pair_of test [] k l x y e f lt h = absurd cc

@@ -25,8 +25,9 @@ use Rattle.vk_laws.proofs.Accesses.TaskNodes.{node_of, same_task}
 use Rattle.vk_model.proofs.Lists.Members.{member_passes, found, map_has, chosen_has, chosen_from}
 use Rattle.vk_laws.proofs.Nodes.Steady.{kept_writes, kept_pieces, new_ids, live_ids}
 use Rattle.vk_laws.proofs.Nodes.Points.{AtPoint, at_point, action_of, comes_at}
-use Rattle.vk_laws.proofs.Accesses.TaskAccesses.{byte_same, piece_write, is_there, is_in_of, ordered}
+use Rattle.vk_laws.proofs.Accesses.TaskAccesses.{piece_write, ordered}
 use Rattle.vk_laws.proofs.Accesses.Apart.{pair_of, no_overlap}
+use Rattle.vk_model.proofs.World.BytePlaces.{byte_same, is_in_of, is_in_from}
 
 -- ---- what a task does
 
@@ -120,14 +121,14 @@ module _ (together : PiecesAreByteWrites) (apart : PiecesWriteApart) (all : Past
         let m = value_after all x k c w h in
         let to = written_to all x k c w m in
         let here = piece_write together all x k m.byte_writer (subst (λ (o : Option (List ByteWrite)). Contains (piece_writes o) m.byte_writer) (sym m.at) to.0) in
-        let f = chosen_from (λ m. origin m.source) (piece_writes (slice_get (pieces all x) l)) c (is_there together all c (origins (piece_writes (slice_get (pieces all x) l))) r) in
+        let f = chosen_from (λ m. origin m.source) (piece_writes (slice_get (pieces all x) l)) c (is_in_from c (origins (piece_writes (slice_get (pieces all x) l))) r) in
         let there = piece_write together all x l f.0 f.1 in
         no_overlap place.past x c no_overlaps
         (m.byte_writer, subst (λ (ms : List ByteWrite). Contains ms m.byte_writer) same_byte_writes here, to.1)
         (f.0, subst (λ (ms : List ByteWrite). Contains ms f.0) same_byte_writes there, f.2)
 
     common : (p q : List ByteWrite) (c : Byte) → Contains (targets p) c → Contains (targets q) c → IsTrue (write_common p q)
-    common p q c cp cq = member_passes (λ b. is_in b (targets q)) (targets p) c cp (is_in_of together all c (targets q) cq)
+    common p q c cp cq = member_passes (λ b. is_in b (targets q)) (targets p) c cp (is_in_of c (targets q) cq)
 
     pub run_once : (k l : ℕ) (c : Byte) (w u : Put) → task_write all (Runs x) k c ≡ Some w → task_write all (Runs x) l c ≡ Some u → k ≡ l
     run_once k l c w u h g =
@@ -173,7 +174,7 @@ module _ (together : PiecesAreByteWrites) (apart : PiecesWriteApart) (all : Past
       let to = written_to all x k c (Puts (From d)) m in
       let from : m.byte_writer.source ≡ From d = let e = m.put in cc in
       subst (λ (o : Option (List ByteWrite)). IsTrue (is_in d (origins (piece_writes o)))) (sym m.at)
-      (is_in_of together all d (origins m.piece) (chosen_has (λ m. origin m.source) m.piece m.byte_writer d to.0 (ap origin from)))
+      (is_in_of d (origins m.piece) (chosen_has (λ m. origin m.source) m.piece m.byte_writer d to.0 (ap origin from)))
   task_source (Hosts x) k c d h = let p = host_put all x k c (Puts (From d)) h in let e = p.put in absurd cc
   task_source (Waits s) k c d h = absurd cc
   task_source (Signals s) k c d h = absurd cc

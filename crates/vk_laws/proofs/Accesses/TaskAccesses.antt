@@ -23,27 +23,7 @@ use Rattle.vk_laws.specs.Tasks.{piece_writes, host_value, task_write, task_read,
 use Rattle.vk_laws.proofs.Accesses.TaskNodes.{node_of}
 use Rattle.vk_model.proofs.Lists.Members.{member_passes, some_member, found, map_has, part_has, chosen_has, chosen_from, numbers_have, none_in}
 use Rattle.vk_laws.proofs.EveryOrder.Fresh.{closed}
-
--- ---- bytes
-
-pub byte_same : (a b : Byte) → IsTrue (same_byte a b) → a ≡ b
-byte_same (in_buffer b k) (in_buffer c l) h =
-    let g = and_parts (b == c) (k == l) h in
-    let e = eqb-true b c g.0 in let f = eqb-true k l g.1 in cc
-byte_same (in_image i a b x y p) (in_image j c d u v q) h =
-    let h5 = and_parts (i == j && a == c && b == d && x == u && y == v) (p == q) h in
-    let h4 = and_parts (i == j && a == c && b == d && x == u) (y == v) h5.0 in
-    let h3 = and_parts (i == j && a == c && b == d) (x == u) h4.0 in
-    let h2 = and_parts (i == j && a == c) (b == d) h3.0 in
-    let h1 = and_parts (i == j) (a == c) h2.0 in
-    let e0 = eqb-true i j h1.0 in let e1 = eqb-true a c h1.1 in let e2 = eqb-true b d h2.1 in
-    let e3 = eqb-true x u h3.1 in let e4 = eqb-true y v h4.1 in let e5 = eqb-true p q h5.1 in cc
-byte_same (in_buffer b k) (in_image j c d u v q) h = absurd cc
-byte_same (in_image i a b x y p) (in_buffer c l) h = absurd cc
-
-pub byte_itself : (a : Byte) → IsTrue (same_byte a a)
-byte_itself (in_buffer b k) = rw (eq-eqb b b refl, eq-eqb k k refl) refl
-byte_itself (in_image i a b x y p) = rw (eq-eqb i i refl, eq-eqb a a refl, eq-eqb b b refl, eq-eqb x x refl, eq-eqb y y refl, eq-eqb p p refl) refl
+use Rattle.vk_model.proofs.World.BytePlaces.{byte_same, is_in_from, is_in_of}
 
 -- ---- what tasks access
 
@@ -89,21 +69,15 @@ module _ (together : PiecesAreByteWrites) (all : Past) where
   writes_it (Signals s) q k c w e = absurd cc
   writes_it (Depends r s) q k c w e = absurd cc
 
-  pub is_there : (c : Byte) (bs : List Byte) → IsTrue (is_in c bs) → Contains bs c
-  is_there c bs h = let s = some_member (same_byte c) bs h in subst (λ (b : Byte). Contains bs b) (sym (byte_same c s.0 s.2)) s.1
-
   reads_it : (a : Act) (q k : ℕ) (c : Byte) → IsTrue (task_read all a k c) → IsTrue (accesses a) × Contains (reads_of all q a) c
   reads_it (Runs x) q k c h =
-      let there = is_there c (origins (piece_writes (slice_get (pieces all x) k))) h in
+      let there = is_in_from c (origins (piece_writes (slice_get (pieces all x) k))) h in
       let m = chosen_from (λ m. origin m.source) (piece_writes (slice_get (pieces all x) k)) c there in
       (refl, chosen_has (λ m. origin m.source) (byte_writes all x) m.0 c (piece_write x k m.0 m.1) m.2)
-  reads_it (Hosts x) q k c h = (refl, is_there c (host_reads x) (and_parts (k == 0) _ h).1)
+  reads_it (Hosts x) q k c h = (refl, is_in_from c (host_reads x) (and_parts (k == 0) _ h).1)
   reads_it (Waits s) q k c h = absurd cc
   reads_it (Signals s) q k c h = absurd cc
   reads_it (Depends r s) q k c h = absurd cc
-
-  pub is_in_of : (c : Byte) (bs : List Byte) → Contains bs c → IsTrue (is_in c bs)
-  is_in_of c bs h = member_passes (same_byte c) bs c h (byte_itself c)
 
   -- ---- and that there are such tasks
 
@@ -134,7 +108,7 @@ module _ (together : PiecesAreByteWrites) (all : Past) where
 
   reader_there : (a : Act) (k : ℕ) (c : Byte) → IsTrue (task_read all a k c) → IsTrue (nat_lt k (task_count all a))
   reader_there (Runs x) k c h =
-      let there = is_there c (origins (piece_writes (slice_get (pieces all x) k))) h in
+      let there = is_in_from c (origins (piece_writes (slice_get (pieces all x) k))) h in
       let m = chosen_from (λ m. origin m.source) (piece_writes (slice_get (pieces all x) k)) c there in
       piece_there x k m.0 m.1
   reader_there (Hosts x) k c h = only_part k (and_parts (k == 0) _ h).0
@@ -183,12 +157,12 @@ module _ (together : PiecesAreByteWrites) (order : AccessesInOrder) (all : Past)
   pub ordered : (s u : Task) (c : Byte) → s.node < u.node → Conflict (accesses_of all) s u c → Precedes (accesses_of all) s u
   ordered s u c lt meet = ⊎_elim
       (λ wr. let x = writer together all s c wr.0 in let y = reader together all u c wr.1 in
-      by_nodes s u x.node y.node x.at y.at x.there (order all x.node y.node c none x.present y.present (let e = x.number in let f = y.number in omega arith) x.is_access y.is_access (inl (is_in_of together all c _ x.accessed, y.accessed))))
+      by_nodes s u x.node y.node x.at y.at x.there (order all x.node y.node c none x.present y.present (let e = x.number in let f = y.number in omega arith) x.is_access y.is_access (inl (is_in_of c _ x.accessed, y.accessed))))
       (λ rest. ⊎_elim
       (λ rw'. let x = reader together all s c rw'.0 in let y = writer together all u c rw'.1 in
-      by_nodes s u x.node y.node x.at y.at x.there (order all x.node y.node c none x.present y.present (let e = x.number in let f = y.number in omega arith) x.is_access y.is_access (inr (inl (x.accessed, is_in_of together all c _ y.accessed)))))
+      by_nodes s u x.node y.node x.at y.at x.there (order all x.node y.node c none x.present y.present (let e = x.number in let f = y.number in omega arith) x.is_access y.is_access (inr (inl (x.accessed, is_in_of c _ y.accessed)))))
       (λ ww. let x = writer together all s c ww.0 in let y = writer together all u c ww.1 in
-      by_nodes s u x.node y.node x.at y.at x.there (order all x.node y.node c none x.present y.present (let e = x.number in let f = y.number in omega arith) x.is_access y.is_access (inr (inr (is_in_of together all c _ x.accessed, y.accessed)))))
+      by_nodes s u x.node y.node x.at y.at x.there (order all x.node y.node c none x.present y.present (let e = x.number in let f = y.number in omega arith) x.is_access y.is_access (inr (inr (is_in_of c _ x.accessed, y.accessed)))))
       rest)
       meet
 

@@ -26,7 +26,6 @@ use Rattle.vk_laws.specs.TraceBytes.{before_node, value_before}
 use Rattle.vk_laws.proofs.Accesses.TaskNodes.{node_of}
 use Rattle.vk_laws.proofs.EveryOrder.Fresh.{none_unless}
 use Rattle.vk_model.proofs.Lists.Members.{member_passes, mapped_from, only_one}
-use Rattle.vk_laws.proofs.Accesses.TaskAccesses.{is_there}
 use Rattle.vk_laws.proofs.Nodes.Points.{AtPoint, at_point, comes_at, at_point_below}
 use Rattle.vk_laws.proofs.Accesses.HazardFree.{read_act, write_act, value_after, host_put, same_byte_writes, run_once, place, action}
 use Rattle.vk_model.proofs.Sync.Numbers.{numbered}
@@ -34,6 +33,7 @@ use Rattle.vk_laws.proofs.Nodes.Counts.{count_acts, node_there}
 use Rattle.vk_laws.proofs.Nodes.Actions.{runs_or_idle, host_action}
 use Rattle.vk_laws.proofs.Bytes.PointSources.{source_at, from_source, point_source}
 use Rattle.vk_laws.proofs.Bytes.BeforeNodes.{before_whole, before_inside, settles, undefined_first}
+use Rattle.vk_model.proofs.World.BytePlaces.{is_in_from}
 
 -- ---- a byte write among those of the pieces
 
@@ -212,7 +212,7 @@ module _ (together : PiecesAreByteWrites) (apart : PiecesWriteApart) (all : Past
           go None e = absurd (sound s.past s.at rule.ReadUndefined (
             comes_at _ _ s,
             breaks_read s.past s.at (entry.Read b o m) (host_action s.at.action (entry.Read b o m) (subst (λ (a : Act). Contains (acts s.at.action) a) act s.acted))
-                (undefined_read s.past b o m c (is_there together all c (bytes_of b o m) h) e),
+                (undefined_read s.past b o m c (is_in_from c (bytes_of b o m) h) e),
           ))
           go (Some v) e = (v, subst (λ (l : Past). (world l).value c ≡ Some v) (sym (at_node n s)) e)
       by_entry n cn _ act h = absurd cc

@@ -14,7 +14,7 @@ use Rattle.vk_model.specs.Run.Caches.{Clean, Dirty, Cell, queue_agent, written_b
 use Rattle.vk_model.specs.Run.Runs.{Name, Stage}
 use Rattle.vk_model.specs.Run.CachedRuns.{Cells, is_synchronization, makes_last_available, makes_byte_visible, after_node}
 use Rattle.vk_model.specs.Sync.Node.{Node, Act, Hosts, Waits, Signals, Runs, Depends, nodes}
-use Rattle.vk_model.specs.Sync.Edge.{edge, is_host, is_submit, pairs, by_host, by_stages, by_signal, by_all_commands, by_semaphore, earlier, signaled_by}
+use Rattle.vk_model.specs.Sync.Edge.{edge, is_host, is_submit, pairs, by_semaphore, earlier, signaled_by}
 use Rattle.vk_model.specs.Sync.Seen.{Read, command_mask, host_mask, makes_writes_available, makes_writes_visible, available_by, invalidates, is_wait, to_host}
 use Rattle.vk_model.specs.Rules.Fault.{Comes}
 use Rattle.vk_laws.specs.Machine.{Task, Put, TraceAccesses, MayRun, latest}
@@ -24,7 +24,7 @@ use Rattle.vk_laws.specs.Tasks.{node_at, accesses_of}
 use Rattle.vk_laws.specs.TraceBytes.{before_node}
 use Rattle.vk_laws.specs.Discards.{with_discards}
 use Rattle.vk_laws.specs.TraceCaches.{submits_to, cached, was_made, makes_write_available, makes_visible_to, caching_of}
-use Rattle.vk_model.proofs.Lists.Truths.{clash, six}
+use Rattle.vk_model.proofs.Lists.Truths.{clash}
 use Rattle.vk_model.proofs.Trace.Growing.{Grows}
 use Rattle.vk_laws.proofs.Nodes.Steady.{IsNew, new_ids, live_ids, comes_within}
 use Rattle.vk_laws.proofs.Caching.CachedStays.{cached_stays}
@@ -37,6 +37,7 @@ use Rattle.vk_laws.proofs.CachedRunning.Touches.{unchanged, back_touches, drop_t
 use Rattle.vk_laws.proofs.CachedRunning.NodesHappened.{event_task, event_at, event_is}
 use Rattle.vk_laws.proofs.CachedRunning.LastWriters.{Last, IsNamed, writer_found}
 use Rattle.vk_laws.proofs.CachedRunning.HostCaches.{HostByte, HostOk, byte_within}
+use Rattle.vk_model.proofs.Sync.EdgeKinds.{by_kind}
 
 -- ---- kinds of nodes
 
@@ -66,15 +67,15 @@ no_run a e x same = let no : is_synchronization a ≡ false = ap is_synchronizat
 
 -- an edge from a command leads to a node of its queue
 edge_from_command : (ns : List Node) (k n : Node) (x : Cmd) → k.act ≡ Runs x → IsTrue (edge ns k n) → k.point.queue ≡ n.point.queue
-unfolding edge
 edge_from_command ns k n x is h =
-    six (by_host k n) (by_stages k n) (by_signal k n) (by_all_commands k n) (pairs k.act n.act) (by_semaphore (earlier n ns) k n) (and_parts _ _ h).1
-    (λ g. absurd (from_host (or_cases _ _ g)))
-    (λ g. (on_queue k n (and_parts _ _ (and_parts _ _ (and_parts _ _ g).0).0).0).1)
-    (λ g. (on_queue k n (and_parts _ _ (and_parts _ _ g).0).0).1)
-    (λ g. (on_queue k n (and_parts _ _ g).0).1)
-    (λ g. absurd (no_pair n.act (subst (λ (a : Act). IsTrue (pairs a n.act)) is g)))
-    (λ g. absurd (no_semaphore g))
+    by_kind ns k n (record {
+      host = λ g. absurd (from_host (or_cases _ _ g));
+      stages = λ g. (on_queue k n (and_parts _ _ (and_parts _ _ (and_parts _ _ g).0).0).0).1;
+      signal = λ g. (on_queue k n (and_parts _ _ (and_parts _ _ g).0).0).1;
+      all_commands = λ g. (on_queue k n (and_parts _ _ g).0).1;
+      pair = λ g. absurd (no_pair n.act (subst (λ (a : Act). IsTrue (pairs a n.act)) is g));
+      semaphore = λ g. absurd (no_semaphore g);
+    }) h
   where
     from_host : IsTrue (is_host k.act && is_host n.act) ⊎ IsTrue (is_submit k.act && k.point.entry == n.point.entry) → ⊥
     from_host (inl f) = clash {b = is_host k.act} (and_parts _ _ f).0 (ap is_host is)

@@ -26,10 +26,11 @@ use Rattle.vk_laws.proofs.Nodes.Counts.{more_nodes}
 use Rattle.vk_laws.proofs.Bytes.BeforeNodes.{before_inside}
 use Rattle.vk_laws.proofs.Nodes.Submits.{submits_there}
 use Rattle.vk_laws.proofs.Caching.Named.{written_made}
-use Rattle.vk_laws.proofs.Accesses.TaskAccesses.{writer, reader, is_in_of}
+use Rattle.vk_laws.proofs.Accesses.TaskAccesses.{writer, reader}
 use Rattle.vk_laws.proofs.Nodes.Ordered.{judged_has, read_is_seen, write_is_seen}
 use Rattle.vk_laws.proofs.Caching.TraceCaches.{agent_is, seen_task, available_task, available_later}
 use Rattle.vk_laws.proofs.Accesses.TaskNodes.{has_task}
+use Rattle.vk_model.proofs.World.BytePlaces.{is_in_of}
 
 -- whether the host caches what a node writes is the same at any later point
 module _ (all newer low : Past) (whole : all ≡ newer ++ low) (new : IsNew all) (alive : IsLive all) (x : Node) (cx : Contains (nodes low) x) (ax : IsTrue (accesses x.act)) (b : Byte) (judged : Past) (h : Contains (writes judged x) b) where
@@ -131,7 +132,7 @@ module _ (together : PiecesAreByteWrites) (paths : BeforeIsPath) (joins : Before
       (λ h k. inl (same_agent paths joins all w u x.node y.node x.at y.at h k))
       (λ h.
       let s : AtPoint all y.node = at_point all y.node y.present in
-      let is_seen = read_is_seen stay hazards visibilities hosts keeps all none x.node y.node x.present y.present later x.is_access y.is_access c h (is_in_of together all c _ x.accessed) y.accessed in
+      let is_seen = read_is_seen stay hazards visibilities hosts keeps all none x.node y.node x.present y.present later x.is_access y.is_access c h (is_in_of c _ x.accessed) y.accessed in
       let has_x = judged_has stay hazards visibilities hosts keeps all none x.node y.node x.present y.present later x.is_access y.is_access c h in
       inr (seen_task paths joins all w u x.node y.node x.at y.at (has_task all w x.node x.at x.there) x.present y.present x.is_access y.is_access (λ b. is_cached (s.at ∷ s.past) (resource_at b)) c
       (λ n cn le.
@@ -139,7 +140,7 @@ module _ (together : PiecesAreByteWrites) (paths : BeforeIsPath) (joins : Before
       ∙ sym (cached_then all (new_ids all sound) (live_ids all sound) x.node x.present x.is_access c all x.accessed n cn le))
       (submits_there all ordered)
       (λ n cn le. made_then all (new_ids all sound) (live_ids all sound) x.node x.present x.is_access c all x.accessed n cn le)
-      (λ host. record { by = x.node; present = x.present; host = host; wrote = is_in_of together all c _ x.accessed; order = inl refl }) is_seen))
+      (λ host. record { by = x.node; present = x.present; host = host; wrote = is_in_of c _ x.accessed; order = inl refl }) is_seen))
 
   written_after : (w u : Task) (c : Byte) → w.node < u.node → Writes (accesses_of all) w c → Writes (accesses_of all) u c → ((caching_of all).agent w ≡ (caching_of all).agent u) ⊎ Available (accesses_of all) (caching_of all) w u c
   written_after w u c lt wr r =
@@ -150,7 +151,7 @@ module _ (together : PiecesAreByteWrites) (paths : BeforeIsPath) (joins : Before
       (λ h k. inl (same_agent paths joins all w u x.node y.node x.at y.at h k))
       (λ h.
       let s : AtPoint all y.node = at_point all y.node y.present in
-      let is_seen = write_is_seen stay hazards visibilities hosts keeps all none x.node y.node x.present y.present later x.is_access y.is_access c h (is_in_of together all c _ x.accessed) y.accessed in
+      let is_seen = write_is_seen stay hazards visibilities hosts keeps all none x.node y.node x.present y.present later x.is_access y.is_access c h (is_in_of c _ x.accessed) y.accessed in
       let has_x = judged_has stay hazards visibilities hosts keeps all none x.node y.node x.present y.present later x.is_access y.is_access c h in
       inr (available_task paths joins all w u x.node y.node x.at y.at (has_task all w x.node x.at x.there) x.present y.present x.is_access y.is_access (λ b. is_cached (s.at ∷ s.past) (resource_at b)) c
       (λ n cn le.

@@ -27,7 +27,7 @@ use Rattle.vk_laws.specs.Discards.{entry_forgets, forgets, or_unknown, with_disc
 use Rattle.vk_laws.proofs.Accesses.TaskNodes.{node_of, same_task, has_task}
 use Rattle.vk_laws.proofs.Nodes.Steady.{new_ids, live_ids}
 use Rattle.vk_laws.proofs.Nodes.Points.{AtPoint, at_point}
-use Rattle.vk_laws.proofs.Accesses.TaskAccesses.{Accessor, writer, reader, is_in_of}
+use Rattle.vk_laws.proofs.Accesses.TaskAccesses.{Accessor, writer, reader}
 use Rattle.vk_laws.proofs.Nodes.Ordered.{judged_has, write_is_seen}
 use Rattle.vk_laws.proofs.Accesses.HazardFree.{read_act, write_act, host_put, hazard_free}
 use Rattle.vk_laws.proofs.Bytes.BeforeNodes.{settles}
@@ -37,6 +37,7 @@ use Rattle.vk_laws.proofs.Caching.CacheFree.{same_agent, same_cached, cached_the
 use Rattle.vk_laws.proofs.Nodes.Submits.{submits_there}
 use Rattle.vk_laws.proofs.Caching.Forgotten.{Given, forget, forgets_of, action, ends, w, w_all, w_earlier, w_writes, same_one, kept_then, there_then, seen_after, before_write, before_it}
 use Rattle.vk_model.specs.declared.command.Length.{Length}
+use Rattle.vk_model.proofs.World.BytePlaces.{is_in_of}
 
 as_command : (a : Act) → IsTrue (accesses a) → IsTrue (is_host a) ⊎ ((c : Cmd) × (a ≡ Runs c))
 as_command (Runs c) h = inr (c, refl)
@@ -244,7 +245,7 @@ module _ (all : Past) (given : Given all) where
         by = w all given f.node f.present f.entry f.act c f.lost;
         present = w_all all given f.node f.present f.entry f.act c f.lost;
         host = refl;
-        wrote = is_in_of given.pieces_together all c _ (w_writes all given f.node f.present f.entry f.act c f.lost);
+        wrote = is_in_of c _ (w_writes all given f.node f.present f.entry f.act c f.lost);
         order = inr (given.hosts all (w all given f.node f.present f.entry f.act c f.lost) f.node (w_all all given f.node f.present f.entry f.act c f.lost) f.present refl (forgot_host s c f) earlier);
       })
       (seen_after all given f.node f.present f.entry f.act c f.lost y.node y.present cmd.0 cmd.1 Read y.accessed low)))
@@ -285,7 +286,7 @@ module _ (all : Past) (given : Given all) where
           let first = before_write all given f.node f.present f.entry f.act c f.lost x.node x.present cmd is_x Write x.accessed (lower s u x.node f.node x.number f.number lt) in
           let sk : AtPoint all k = at_point all k ck in
           let apart_hosts : IsTrue (not (is_host x.node.act && is_host k.act)) = rw is_x refl in
-          let is_seen = write_is_seen given.stay given.hazards given.visibilities given.hosts given.keeps all given.none x.node k x.present ck first.0 x.is_access refl c apart_hosts (is_in_of given.pieces_together all c (writes all x.node) x.accessed) wk in
+          let is_seen = write_is_seen given.stay given.hazards given.visibilities given.hosts given.keeps all given.none x.node k x.present ck first.0 x.is_access refl c apart_hosts (is_in_of c (writes all x.node) x.accessed) wk in
           let has_x = judged_has given.stay given.hazards given.visibilities given.hosts given.keeps all given.none x.node k x.present ck first.0 x.is_access refl c apart_hosts in
           let same = same_cached all sk.newer (sk.at ∷ sk.past) sk.whole (new_ids all given.sound) (live_ids all given.sound) x.node has_x x.is_access c all x.accessed in
           let then_same = λ (n : Node) (cn : Contains (nodes all) n) (le : x.node.number ≤ n.number). same ∙ sym (cached_then all (new_ids all given.sound) (live_ids all given.sound) x.node x.present x.is_access c all x.accessed n cn le) in

@@ -30,7 +30,7 @@ use Rattle.vk_model.proofs.Lists.Truths.{clash}
 use Rattle.vk_laws.proofs.Nodes.NoHazard.{edge_before, reaches_join, or_before, before_reaches}
 use Rattle.vk_laws.proofs.Nodes.Steady.{new_ids, live_ids}
 use Rattle.vk_laws.proofs.Nodes.Points.{AtPoint, at_point, comes_at}
-use Rattle.vk_laws.proofs.Accesses.TaskAccesses.{host_writes_it, is_in_of}
+use Rattle.vk_laws.proofs.Accesses.TaskAccesses.{host_writes_it}
 use Rattle.vk_laws.proofs.Nodes.Ordered.{judged_has, read_is_seen, write_is_seen}
 use Rattle.vk_laws.proofs.Nodes.Actions.{host_action}
 use Rattle.vk_laws.proofs.Nodes.Counts.{more_nodes}
@@ -39,6 +39,7 @@ use Rattle.vk_laws.proofs.Caching.CacheFree.{same_cached, cached_then, made_then
 use Rattle.vk_laws.proofs.Caching.Dirty.{DirtiedBy, dirtied_by}
 use Rattle.vk_model.proofs.Sync.Numbers.{number_below, unique, numbered}
 use Rattle.vk_model.proofs.Sync.Paths.{leads_on}
+use Rattle.vk_model.proofs.World.BytePlaces.{is_in_of}
 
 -- ---- entries that flush and forget
 
@@ -233,8 +234,8 @@ module _ (all : Past) (given : Given all) where
         same_one = at_any point.newer (point.at ∷ point.past) point.whole (judged_has given.stay given.hazards given.visibilities given.hosts given.keeps all given.none w a w_all ca lt refl accesses_it c not_hosts)
 
         is_seen : (k : Access) → Touches k → IsTrue (seen one (nodes all) w a k c)
-        is_seen Read h = read_is_seen given.stay given.hazards given.visibilities given.hosts given.keeps all given.none w a w_all ca lt refl accesses_it c not_hosts (is_in_of given.pieces_together all c (writes all w) w_writes) h
-        is_seen Write h = write_is_seen given.stay given.hazards given.visibilities given.hosts given.keeps all given.none w a w_all ca lt refl accesses_it c not_hosts (is_in_of given.pieces_together all c (writes all w) w_writes) h
+        is_seen Read h = read_is_seen given.stay given.hazards given.visibilities given.hosts given.keeps all given.none w a w_all ca lt refl accesses_it c not_hosts (is_in_of c (writes all w) w_writes) h
+        is_seen Write h = write_is_seen given.stay given.hazards given.visibilities given.hosts given.keeps all given.none w a w_all ca lt refl accesses_it c not_hosts (is_in_of c (writes all w) w_writes) h
 
         by_flush : (k : Access) → Touches k → Flushed given.paths given.joins all one w a w_all ca cmd is_a write refl c (same_one ∙ kept) k
         by_flush k h = flushed given.paths given.joins all one w a w_all ca cmd is_a write refl c (same_one ∙ kept) k (is_seen k h)
@@ -277,8 +278,8 @@ module _ (all : Past) (given : Given all) where
           (cases_lt a.number w.number)
         where
           meets : (k : Access) → Touches k → Rattle.vk_laws.specs.Trace.Meets all a w c
-          meets Read h = inr (inl (h, is_in_of given.pieces_together all c (writes all w) w_writes))
-          meets Write h = inr (inr (is_in_of given.pieces_together all c (writes all a) h, w_writes))
+          meets Read h = inr (inl (h, is_in_of c (writes all w) w_writes))
+          meets Write h = inr (inr (is_in_of c (writes all a) h, w_writes))
 
           no_command : w ≡ a → ⊥
           no_command same = let e : Hosts write ≡ Runs cmd = ap (λ (n : Node). n.act) same ∙ is_a in cc

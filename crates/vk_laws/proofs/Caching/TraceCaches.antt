@@ -9,7 +9,7 @@ use Rattle.vk_model.specs.Basics.{holds}
 use Rattle.vk_model.specs.World.Bytes.{Byte}
 use Rattle.vk_model.specs.Trace.Point.{Past}
 use Rattle.vk_model.specs.Sync.Node.{Node, Act, Hosts, Waits, Signals, Runs, Depends, Barrier, SetOf, AwaitOf, nodes}
-use Rattle.vk_model.specs.Sync.Edge.{edge, is_host, is_submit, is_command, pairs, by_host, by_stages, by_signal, by_all_commands, by_semaphore, earlier, signaled_by, same_queue}
+use Rattle.vk_model.specs.Sync.Edge.{edge, is_host, is_submit, is_command, pairs, by_semaphore, earlier, signaled_by, same_queue}
 use Rattle.vk_model.specs.Sync.Before.{before, IsNumbered}
 use Rattle.vk_model.specs.Sync.Seen.{Read, Write, command_mask, host_mask, seen, makes_writes_available, makes_writes_visible, available_by, visible_by, invalidates, is_wait, to_host, passes, flushes}
 use Rattle.vk_model.specs.Sync.Access.{is_in, writes}
@@ -22,11 +22,12 @@ use Rattle.vk_model.specs.Run.Caches.{agent_of}
 use Rattle.vk_laws.specs.TraceCaches.{submits_to, host_wrote, cached, was_made, makes_write_available, makes_visible_to_host, makes_visible_to, caching_of}
 use Rattle.vk_laws.proofs.Accesses.TaskNodes.{node_of}
 use Rattle.vk_model.proofs.Lists.Members.{contains-cons, member_passes, some_member, none_in}
-use Rattle.vk_model.proofs.Lists.Truths.{clash, six}
+use Rattle.vk_model.proofs.Lists.Truths.{clash}
 use Rattle.vk_laws.proofs.Nodes.NoHazard.{edge_before, Reaches, reaches_join, or_before, reaches_before, before_reaches}
 use Rattle.vk_model.proofs.Sync.Numbers.{numbered, number_below}
 use Rattle.vk_model.proofs.Sync.Paths.{leads_on}
 use Rattle.vk_model.proofs.Sync.HostActs.{submit_host}
+use Rattle.vk_model.proofs.Sync.EdgeKinds.{by_kind}
 
 -- ---- kinds of events
 
@@ -108,15 +109,15 @@ pub on_queue : (q y : Node) → IsTrue (same_queue q y) → OnQueue q y
 on_queue q y h = let g = and_parts _ _ h in ((and_parts _ _ g.0).0, eqb-true q.point.queue y.point.queue g.1)
 
 edge_to_command : (ns : List Node) (q y : Node) (c : Cmd) → y.act ≡ Runs c → IsTrue (edge ns q y) → (IsTrue (is_submit q.act) × (q.point.entry ≡ y.point.entry)) ⊎ OnQueue q y
-unfolding edge
 edge_to_command ns q y c is h =
-    six (by_host q y) (by_stages q y) (by_signal q y) (by_all_commands q y) (pairs q.act y.act) (by_semaphore (earlier y ns) q y) (and_parts _ _ h).1
-    (λ g. from_host (or_cases _ _ g))
-    (λ g. inr (on_queue q y (and_parts _ _ (and_parts _ _ (and_parts _ _ g).0).0).0))
-    (λ g. inr (on_queue q y (and_parts _ _ (and_parts _ _ g).0).0))
-    (λ g. inr (on_queue q y (and_parts _ _ g).0))
-    (λ g. absurd (no_pair_run q.act c (subst (λ (a : Act). IsTrue (pairs q.act a)) is g)))
-    (λ g. absurd (no_semaphore g))
+    by_kind ns q y (record {
+      host = λ g. from_host (or_cases _ _ g);
+      stages = λ g. inr (on_queue q y (and_parts _ _ (and_parts _ _ (and_parts _ _ g).0).0).0);
+      signal = λ g. inr (on_queue q y (and_parts _ _ (and_parts _ _ g).0).0);
+      all_commands = λ g. inr (on_queue q y (and_parts _ _ g).0);
+      pair = λ g. absurd (no_pair_run q.act c (subst (λ (a : Act). IsTrue (pairs q.act a)) is g));
+      semaphore = λ g. absurd (no_semaphore g);
+    }) h
   where
     from_host : IsTrue (is_host q.act && is_host y.act) ⊎ IsTrue (is_submit q.act && q.point.entry == y.point.entry) → (IsTrue (is_submit q.act) × (q.point.entry ≡ y.point.entry)) ⊎ OnQueue q y
     from_host (inl g) = absurd (clash {b = is_host y.act} (and_parts _ _ g).1 (ap is_host is))

@@ -28,10 +28,10 @@ use Rattle.vk_model.proofs.Lists.Grids.{grid_from}
 use Rattle.vk_model.proofs.Trace.Growing.{Grows}
 use Rattle.vk_laws.proofs.Nodes.Steady.{IsNew, IsLive, new_ids, live_ids, made_up, comes_within}
 use Rattle.vk_laws.proofs.Nodes.Points.{at_point, action_of}
-use Rattle.vk_laws.proofs.Accesses.TaskAccesses.{byte_same}
 use Rattle.vk_laws.proofs.Caching.Named.{Names, first_named, command_names, named_made}
 use Rattle.vk_laws.proofs.Running.StageTasks.{Known}
 use Rattle.vk_laws.proofs.Running.OfferedPieces.{is_piece}
+use Rattle.vk_model.proofs.World.BytePlaces.{byte_same}
 
 -- ---- what a command copies from
 

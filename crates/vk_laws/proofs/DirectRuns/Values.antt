@@ -24,7 +24,6 @@ use Rattle.vk_laws.specs.DefinedRuns.{piece_task, entry_task, done_by}
 use Rattle.vk_laws.specs.DirectRuns.{HostMemory, held_by_host, cells_of}
 use Rattle.vk_model.proofs.Lists.Members.{contains-head, contains-tail, member_passes, map_has, numbers_have, range_from}
 use Rattle.vk_model.proofs.Trace.Growing.{Grows}
-use Rattle.vk_laws.proofs.Accesses.TaskAccesses.{byte_itself}
 use Rattle.vk_laws.proofs.Bytes.BeforeNodes.{settles}
 use Rattle.vk_laws.proofs.Running.Stages.{From}
 use Rattle.vk_laws.proofs.Running.StageTasks.{Known}
@@ -32,6 +31,7 @@ use Rattle.vk_laws.proofs.Running.OfferedPieces.{Offered, offered_of}
 use Rattle.vk_laws.proofs.Running.AtStage.{AtPoint, begins, grows, here_at}
 use Rattle.vk_laws.proofs.Running.StageSteps.{all_steps}
 use Rattle.vk_laws.proofs.CachedRunning.CachedPieces.{agent_is_queue, its_write}
+use Rattle.vk_model.proofs.World.BytePlaces.{byte_itself}
 
 -- ---- what an entry reads
 

@@ -12,7 +12,7 @@ use Rattle.vk_model.specs.Trace.Order.{order}
 use Rattle.vk_model.specs.World.ByteWrites.{ByteWrite}
 use Rattle.vk_model.specs.Run.Pieces.{pieces}
 use Rattle.vk_model.specs.Sync.Node.{Node, Act, Hosts, Waits, Signals, Runs, Depends, Barrier, SetOf, AwaitOf, nodes}
-use Rattle.vk_model.specs.Sync.Edge.{edge, is_host, is_submit, same_queue, by_host, by_stages, by_signal, by_all_commands, by_semaphore, pairs, signaled_by, waited_by, host_waits, earlier}
+use Rattle.vk_model.specs.Sync.Edge.{edge, is_host, is_submit, same_queue, by_semaphore, pairs, signaled_by, waited_by, host_waits, earlier}
 use Rattle.vk_model.specs.Sync.Before.{before}
 use Rattle.vk_model.specs.Rules.Fault.{IsSound}
 use Rattle.vk_model.specs.Rules.Table.{first_fault}
@@ -24,12 +24,13 @@ use Rattle.vk_laws.specs.Tasks.{task_count, node_at, by_act, accesses_of}
 use Rattle.vk_laws.specs.DefinedRuns.{is_event, act_happened, has_happened}
 use Rattle.vk_laws.proofs.Nodes.Steady.{new_ids, live_ids}
 use Rattle.vk_model.proofs.Lists.Members.{map_has, numbers_have, all_passes}
-use Rattle.vk_model.proofs.Lists.Truths.{implied, six}
+use Rattle.vk_model.proofs.Lists.Truths.{implied}
 use Rattle.vk_laws.proofs.Caching.TraceCaches.{never_holds}
 use Rattle.vk_model.proofs.Sync.HostActs.{submit_host}
 use Rattle.vk_model.proofs.Trace.Growing.{Grows}
 use Rattle.vk_laws.proofs.Nodes.Prefixes.{is_old, old_has, same_before, same_pieces}
 use Rattle.vk_model.proofs.Sync.Numbers.{number_below, numbered}
+use Rattle.vk_model.proofs.Sync.EdgeKinds.{by_kind}
 
 -- ---- names
 
@@ -58,15 +59,15 @@ waits_none (entry.Wait ws) e = absurd cc
 waits_none _ e = refl
 
 pub edge_to_entry : (ns : List Node) (m n : Node) (x : Entry) → n.act ≡ Hosts x → is_host_wait x ≡ false → IsTrue (edge ns m n) → IsTrue (is_host m.act)
-unfolding edge
 edge_to_entry ns m n x act plain h =
-    six (by_host m n) (by_stages m n) (by_signal m n) (by_all_commands m n) (pairs m.act n.act) (by_semaphore (earlier n ns) m n) (and_parts _ _ h).1
-    (λ g. from_host (or_cases _ _ g))
-    (λ g. absurd (no_queue (and_parts _ _ (and_parts _ _ (and_parts _ _ g).0).0).0))
-    (λ g. absurd (no_queue (and_parts _ _ (and_parts _ _ g).0).0))
-    (λ g. absurd (no_queue (and_parts _ _ g).0))
-    (λ g. absurd (no_pair_host m.act x (subst (λ (a : Act). IsTrue (pairs m.act a)) act g)))
-    (λ g. absurd (no_semaphore g))
+    by_kind ns m n (record {
+      host = λ g. from_host (or_cases _ _ g);
+      stages = λ g. absurd (no_queue (and_parts _ _ (and_parts _ _ (and_parts _ _ g).0).0).0);
+      signal = λ g. absurd (no_queue (and_parts _ _ (and_parts _ _ g).0).0);
+      all_commands = λ g. absurd (no_queue (and_parts _ _ g).0);
+      pair = λ g. absurd (no_pair_host m.act x (subst (λ (a : Act). IsTrue (pairs m.act a)) act g));
+      semaphore = λ g. absurd (no_semaphore g);
+    }) h
   where
     from_host : IsTrue (is_host m.act && is_host n.act) ⊎ IsTrue (is_submit m.act && m.point.entry == n.point.entry) → IsTrue (is_host m.act)
     from_host (inl g) = (and_parts _ _ g).0

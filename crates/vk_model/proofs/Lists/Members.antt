@@ -4,6 +4,7 @@ use Rattle.std.specs.Prelude.{Contains, slice_index_or}
 use Rattle.std.specs.List.{list_any, list_all, filter, find, flat_map, filter_map, range_with_len, cons_option}
 use Rattle.std.proofs.lemmas.Bool.{or_left, or_right, and_parts, and_from}
 use Rattle.std.proofs.lemmas.List.Elements.{Contains-append_left, Contains-append_right, Contains-append_cases}
+use Rattle.vk_model.specs.Basics.{below}
 use Rattle.vk_model.proofs.Lists.Truths.{clash}
 
 -- ---- where a member is
@@ -152,6 +153,9 @@ numbers_have a (suc n) (suc k) lt = subst (λ (z : ℕ). Contains (range_with_le
 pub range_from : (a n k : ℕ) → Contains (range_with_len a n) k → (a ≤ k) × (k < a + n)
 range_from a zero k c = absurd (none_in k c)
 range_from a (suc n) k c = ⊎_elim (λ e. (omega (arith, e), omega (arith, e))) (λ later. let r = range_from (a + 1) n k later in let low = r.0 in let high = r.1 in (omega arith, omega arith)) (contains-cons a (range_with_len (a + 1) n) k c)
+
+pub below_from : (n k : ℕ) → Contains (below n) k → k < n
+below_from n k c = let r = range_from 0 n k c in omega (arith, r.1)
 
 pub filter_has : {X : Type 0} (f : X → Bool) (xs : List X) (x : X) → Contains xs x → IsTrue (f x) → Contains (filter f xs) x
 filter_has f [] x c h = absurd (none_in x c)

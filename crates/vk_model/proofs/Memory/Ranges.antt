@@ -1,10 +1,23 @@
--- Ranges one after another, with one more or some fewer.
-use Rattle.std.proofs.Common.{◌≡◌, ℕ, ◌+◌, ◌≤◌, List, [], ◌∷◌, ◌++◌, length, Bool, true, false, refl, ap, arith, cond}
+-- Two ranges, and ranges one after another, with one more or some fewer. Other crates cite it.
+use Rattle.std.proofs.Common.{◌≡◌, ◌⊎◌, inl, inr, ℕ, ◌+◌, ◌<◌, ◌≤◌, List, [], ◌∷◌, ◌++◌, length, Bool, true, false, refl, ap, arith, cond}
 use Rattle.std.specs.List.{filter}
-use Rattle.std.proofs.lemmas.Bool.{eqb-true}
-use Rattle.vk_model.specs.Memory.Suballocation.{Taken}
+use Rattle.std.proofs.lemmas.Bool.{eqb-true, cases_lt, lt-ltb}
+use Rattle.vk_model.specs.Memory.Suballocation.{Taken, ranges_meet}
 use Rattle.vk_model.specs.Memory.Room.{end_after, first_start, last_start, is_none_left}
 use Rattle.vk_model.specs.Memory.LinearBlocks.{Rises, Falls}
+use Rattle.vk_model.proofs.Lists.Truths.{clash}
+
+-- ---- two ranges
+
+-- two ranges of some bytes that don't meet are beside each other
+pub beside : (a n b m : ℕ) → 0 < n → 0 < m → ranges_meet a n b m ≡ false → (a + n ≤ b) ⊎ (b + m ≤ a)
+beside a n b m some few apart = elim (cases_lt b (a + n)) [
+  | inr over ↦ inl over
+  | inl lower ↦ elim (cases_lt a (b + m)) [
+    | inr over ↦ inr over
+    | inl low ↦ let meet : ranges_meet a n b m ≡ true = rw (lt-ltb 0 n some, lt-ltb 0 m few, lt-ltb a (b + m) low, lt-ltb b (a + n) lower) refl in clash meet apart
+  ]
+]
 
 -- ---- ranges one after another
 

@@ -1,7 +1,7 @@
 -- The pieces of a command, put together.
 use Rattle.std.proofs.Common.{◌≡◌, ℕ, zero, suc, ◌+◌, ◌*◌, ◌<◌, ◌≤◌, max, ◌/◌, ◌^◌, List, [], ◌∷◌, ◌++◌, map, length, take, drop, refl, ap, sym, ◌∙◌, arith, inl, inr, ◌⊎◌, Option, Some, None}
 use Rattle.std.specs.List.{flat_map}
-use Rattle.std.proofs.lemmas.List.{take-append-drop, length-drop, map-append}
+use Rattle.std.proofs.lemmas.List.{take-append-drop, length-drop}
 use Rattle.std.proofs.lemmas.Grind.{flat_map-append}
 use Rattle.vk_model.specs.declared.command.Cmd.{Cmd}
 use Rattle.vk_model.specs.declared.command.Cmd.TheVariants as cmd
@@ -9,7 +9,6 @@ use Rattle.vk_model.specs.declared.command.BufferImageCopy.{BufferImageCopy}
 use Rattle.vk_model.specs.declared.command.ImageCopy.{ImageCopy}
 use Rattle.vk_model.specs.declared.command.SubresourceRange.{SubresourceRange}
 use Rattle.vk_model.specs.declared.resource.ImageInfo.{ImageInfo}
-use Rattle.vk_model.specs.declared.layout.Format.{Format}
 use Rattle.vk_model.specs.declared.layout.Format.TheVariants as format
 use Rattle.vk_model.specs.Basics.{below, grid}
 use Rattle.vk_model.specs.Trace.Image.{texel, level_width}
@@ -18,6 +17,9 @@ use Rattle.vk_model.specs.Trace.Objects.{image}
 use Rattle.vk_model.specs.World.ByteWrites.{ByteWrite, byte_writes, copy_writes, copy_in_writes, copy_out_writes, copy_image_writes, clear_write, clear_writes, level_bytes}
 use Rattle.vk_model.specs.Run.Pieces.{chunks, cut, row_bytes, level_pieces, clear_pieces, pieces}
 use Rattle.vk_model.specs.Laws.{together}
+use Rattle.vk_model.proofs.Lists.Items.{map_flat}
+use Rattle.std.proofs.Math.Nat.{mul-pos}
+use Rattle.vk_model.proofs.World.BytePlaces.{texel_some}
 
 together-append : {A : Type 0} (xs ys : List (List A)) → together (xs ++ ys) ≡ together xs ++ together ys
 together-append xs ys = flat_map-append (λ x. x) xs ys
@@ -52,22 +54,8 @@ none_flat f (x ∷ xs) none = rw (none x) (none_flat f xs none)
 flat_grid : {A : Type 0} (a b d : ℕ) (f : ℕ → ℕ → ℕ → ℕ → A) → grid a b 0 d f ≡ []
 flat_grid a b d f = none_flat _ (below a) (λ i. none_flat _ (below b) (λ j. refl))
 
-texel_some : (f : Format) → 0 < texel f
-texel_some format.R8Uint = omega arith
-texel_some format.R8G8Uint = omega arith
-texel_some format.R8G8B8A8Uint = omega arith
-texel_some format.R16Uint = omega arith
-texel_some format.R32Uint = omega arith
-texel_some format.R32G32Uint = omega arith
-texel_some format.R32G32B32A32Uint = omega arith
-
-product_some : (a b : ℕ) → 0 < a → 0 < b → 0 < a * b
-product_some zero b x y = absurd (omega arith)
-product_some (suc a) zero x y = absurd (omega arith)
-product_some (suc a) (suc b) x y = omega arith
-
 rows_some : (w : ℕ) (m : ImageInfo) → 0 < w → 0 < w * texel m.format
-rows_some w m some = product_some w (texel m.format) some (texel_some m.format)
+rows_some w m some = mul-pos some (texel_some m.format)
 
 -- a grid of rows in one piece a row
 rows_together : {A : Type 0} (a b w : ℕ) (m : ImageInfo) (f : ℕ → ℕ → ℕ → ℕ → A) → together (cut (w * texel m.format) (grid a b w (texel m.format) f)) ≡ grid a b w (texel m.format) f
@@ -88,10 +76,6 @@ copy_image_together : (s d : ℕ) (o : Option ImageInfo) (g : ImageCopy) → tog
 copy_image_together s d None g = refl
 copy_image_together s d (Some m) g = rows_together g.layers g.height g.width m _
 
-map-flat : {A B C : Type 0} (h : B → C) (f : A → List B) (xs : List A) → map h (flat_map f xs) ≡ flat_map (λ x. map h (f x)) xs
-map-flat h f [] = refl
-map-flat h f (x ∷ xs) = map-append h (f x) (flat_map f xs) ∙ ap (λ l. map h (f x) ++ l) (map-flat h f xs)
-
 width_some : (m : ImageInfo) (k : ℕ) → 0 < level_width m k
 width_some m k = max_some (m.width / 2 ^ k)
   where
@@ -107,7 +91,7 @@ clear_together i color None r = refl
 clear_together i color (Some m) r =
     each_together (λ k. level_pieces i color m r (r.first_level + k)) (λ k. map (clear_write m color) (level_bytes i m r (r.first_level + k))) (below r.levels)
     (λ k. level_together i color m r (r.first_level + k))
-    ∙ sym (map-flat (clear_write m color) (λ k. level_bytes i m r (r.first_level + k)) (below r.levels))
+    ∙ sym (map_flat (clear_write m color) (λ k. level_bytes i m r (r.first_level + k)) (below r.levels))
 
 -- ---- commands
 

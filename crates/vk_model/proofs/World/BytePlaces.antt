@@ -1,10 +1,17 @@
--- When two bytes are the same, by where they are. Other crates cite it.
-use Rattle.std.proofs.Common.{◌≡◌, ℕ, ◌+◌, ◌*◌, ◌<◌, ◌≤◌, true, false, ◌==◌, arith, inl, inr, ◌⊎◌}
+-- When two bytes are the same, by where they are; texels and rows of them. Other crates cite it.
+use Rattle.std.proofs.Common.{◌≡◌, ℕ, ◌+◌, ◌*◌, ◌<◌, ◌≤◌, List, true, false, ◌==◌, refl, sym, subst, arith, inl, inr, ◌⊎◌}
+use Rattle.std.specs.Prelude.{Contains}
 use Rattle.std.proofs.Math.Nat.{mul-le-mul_right}
-use Rattle.std.proofs.lemmas.Bool.{eqb-true, lt-ltb, and_parts, and_from, false_from_ne_true}
+use Rattle.std.proofs.lemmas.Bool.{eqb-true, eq-eqb, lt-ltb, and_parts, and_from, false_from_ne_true}
 use Rattle.vk_model.specs.Memory.Suballocation.{ranges_meet}
 use Rattle.vk_model.specs.World.Bytes.{Byte, in_buffer, in_image, same_byte}
+use Rattle.vk_model.specs.Sync.Access.{is_in}
+use Rattle.vk_model.proofs.Lists.Truths.{no}
+use Rattle.vk_model.proofs.Lists.Members.{member_passes, some_member}
 use Rattle.vk_model.proofs.Lists.Grids.{Less}
+use Rattle.vk_model.specs.declared.layout.Format.{Format}
+use Rattle.vk_model.specs.declared.layout.Format.TheVariants as format
+use Rattle.vk_model.specs.Trace.Image.{texel}
 
 -- ---- bytes that are the same
 
@@ -33,6 +40,25 @@ image_same i a l x y p j c m u v q e =
       y_is = eqb-true y v (and_parts _ (y == v) e5).1;
       part = eqb-true p q (and_parts _ (p == q) e).1;
     }
+
+pub byte_same : (b c : Byte) → same_byte b c ≡ true → b ≡ c
+byte_same (in_buffer b k) (in_buffer c l) e = let s = buffer_same b k c l e in rw (s.0, s.1) refl
+byte_same (in_image i a l x y p) (in_image j c m u v q) e =
+    let s = image_same i a l x y p j c m u v q e in rw (s.image, s.level, s.layer, s.x_is, s.y_is, s.part) refl
+byte_same (in_buffer b k) (in_image j c m u v q) e = no e
+byte_same (in_image i a l x y p) (in_buffer c k) e = no e
+
+pub byte_itself : (b : Byte) → same_byte b b ≡ true
+byte_itself (in_buffer b k) = rw (eq-eqb b b refl, eq-eqb k k refl) refl
+byte_itself (in_image i a l x y p) = rw (eq-eqb i i refl, eq-eqb a a refl, eq-eqb l l refl, eq-eqb x x refl, eq-eqb y y refl, eq-eqb p p refl) refl
+
+-- ---- a byte among others
+
+pub is_in_from : (b : Byte) (bs : List Byte) → is_in b bs ≡ true → Contains bs b
+is_in_from b bs h = let m = some_member (same_byte b) bs h in subst (λ (c : Byte). Contains bs c) (sym (byte_same b m.0 m.2)) m.1
+
+pub is_in_of : (b : Byte) (bs : List Byte) → Contains bs b → is_in b bs ≡ true
+is_in_of b bs c = member_passes (same_byte b) bs b c (byte_itself b)
 
 -- ---- ranges with a common number meet
 
@@ -64,6 +90,18 @@ no_less z y x k z' y' x' k' a b c d (inr more) = deeper more.1
         deepest : (x < x') ⊎ ((x ≡ x') × (k < k')) → ⊥
         deepest (inl lt) = omega arith
         deepest (inr more) = let lt = more.1 in omega arith
+
+-- ---- texels
+
+-- a texel has bytes
+pub texel_some : (f : Format) → 0 < texel f
+texel_some format.R8Uint = omega arith
+texel_some format.R8G8Uint = omega arith
+texel_some format.R8G8B8A8Uint = omega arith
+texel_some format.R16Uint = omega arith
+texel_some format.R32Uint = omega arith
+texel_some format.R32G32Uint = omega arith
+texel_some format.R32G32B32A32Uint = omega arith
 
 -- ---- texels of boxes
 

@@ -12,7 +12,7 @@ use Rattle.vk_model.specs.World.Areas.{row_count, region_box, source_box, destin
 use Rattle.vk_model.specs.World.ByteWrites.{ByteWrite}
 use Rattle.vk_model.specs.Run.Pieces.{pieces}
 use Rattle.vk_transfer.specs.Ran.{HaveRun}
-use Rattle.vk_image_transfer.specs.Pieces.{RangeFits, range_rows, copy_rows}
+use Rattle.vk_image_transfer.specs.Pieces.{RangeFits, range_rows}
 use Rattle.vk_image_transfer.specs.Rows.{BoxFits, RegionFits}
 use Rattle.vk_resources.specs.declared.resources.Placed.{Placed}
 use Rattle.vk_resources.specs.Held.{Held, placed, shape_of, byte_at}
@@ -52,12 +52,6 @@ pub record ArePictures (s : Held) (a b : ℕ) : Type 0 where
 -- A region of a copy between images lies in both; within one image what is read isn't written (Vulkan, "Copying Data Between Images").
 abbrev pub FitsPictures : (s : Held) (a b : ℕ) → ArePictures s a b → ImageCopy → Type 0
 FitsPictures s a b p g = BoxFits p.from.image (source_box g) × BoxFits p.to.image (destination_box g) × KeepsApart a b g
-
--- A piece of a copy between images is one of its regions, each of which fits.
-pub record ImagesReady (s : Held) (a b : ℕ) (gs : List ImageCopy) (k : ℕ) : Type 0 where
-  pub pictures : ArePictures s a b
-  pub fits : All (FitsPictures s a b pictures) gs
-  pub piece : k < sum_by copy_rows gs
 
 -- A row of a region of a copy between images is there, and the region fits.
 pub record ImageRowReady (s : Held) (a b : ℕ) (g : ImageCopy) (k : ℕ) : Type 0 where

@@ -16,7 +16,6 @@ use Rattle.vk_model.specs.Sync.Access.{is_in}
 use Rattle.vk_model.proofs.Lists.Grids.{grid_from, below_has}
 use Rattle.vk_model.proofs.Lists.Members.{some_member, member_passes, range_from, mapped_from, flat_from}
 use Rattle.vk_model.proofs.Lists.Truths.{clash}
-use Rattle.vk_laws.proofs.Accesses.TaskAccesses.{byte_itself}
 use Rattle.vk_image_bytes.specs.declared.ranges.ByteRanges.{ByteRanges}
 use Rattle.vk_image_bytes.specs.Numbers.{byte_of, byte_count, number_of}
 use Rattle.vk_image_bytes.specs.Ranges.{AreRanges, has_number}
@@ -26,7 +25,7 @@ use Rattle.vk_image_bytes.proofs.Spans.{within_from, within_parts}
 use Rattle.vk_touches.specs.declared.touches.LastTouches.{LastTouches}
 use Rattle.vk_touches.specs.Touched.{touched}
 use Rattle.vk_touches.specs.Conflicts.{FoundAt, FoundInRanges}
-use Rattle.vk_touches.proofs.Touching.LastAccesses.{is_there}
+use Rattle.vk_model.proofs.World.BytePlaces.{is_in_from, is_in_of}
 
 -- levels and layers are an image's
 pub record AreThere (m : ImageInfo) (r : SubresourceRange) : Type 0 where
@@ -89,12 +88,12 @@ module _ (m : ImageInfo) (i : ℕ) (r : SubresourceRange) (fit : AreThere m r) w
         let ends = are.inside n lt in
         let there : k < byte_count m = omega (arith, high, ends) in
         let has : has_number s k ≡ true = member_passes (λ j. within (s.first + j * s.step) s.size k) (below s.count) n (below_has s.count n lt) (within_from (s.first + n * s.step) s.size k low high) in
-        member_passes test bytes (byte_of m i k) (is_there (byte_of m i k) bytes (in_subresources m i r fit.shaped k there ∙ sym (are.bytes i k there) ∙ has)) (said k there true t at h)
+        member_passes test bytes (byte_of m i k) (is_in_from (byte_of m i k) bytes (in_subresources m i r fit.shaped k there ∙ sym (are.bytes i k there) ∙ has)) (said k there true t at h)
     ranges_found false none = false_from_ne_true (list_any test bytes) (λ e.
         let b = some_member test bytes e in
         let k = some_number b.0 b.1 in
         let named : byte_of m i k.0 ≡ b.0 = k.2 in
-        let listed : is_in (byte_of m i k.0) bytes ≡ true = member_passes (same_byte (byte_of m i k.0)) bytes (byte_of m i k.0) (subst (λ (c : Byte). Contains bytes c) (sym named) b.1) (byte_itself (byte_of m i k.0)) in
+        let listed : is_in (byte_of m i k.0) bytes ≡ true = is_in_of (byte_of m i k.0) bytes (subst (λ (c : Byte). Contains bytes c) (sym named) b.1) in
         let n = in_some k.0 k.1 listed in
         let found = none n.0 n.1 k.0 n.2 n.3 in
         clash (ap test named ∙ b.2) (said k.0 k.1 false found.0 found.1 found.2))

@@ -30,10 +30,10 @@ use Rattle.vk_touches.specs.Bytes.{numbered_byte}
 use Rattle.vk_touches.specs.Touched.{next_node, act_next, last_touch, last_transition, touched}
 use Rattle.vk_touches.specs.Conflicts.{Misses, MissesRead, MissesWrite, HasEarlyCommand, IsEarly}
 use Rattle.vk_touches.proofs.Touching.AllTransitions.{last_transition_is, is_transition_node}
-use Rattle.vk_touches.proofs.Touching.LastAccesses.{is_there}
 use Rattle.vk_touches.proofs.Touching.LastHazards.{StaysCached, some_last, write_ways, read_ways, unseen, early}
 use Rattle.vk_touches.proofs.Touching.TransitionBytes.{moved, no_buffer}
 use Rattle.vk_touches.proofs.Judging.Missed.{IsOnImage, write_missed, host_missed, transition_missed, read_missed, ahead_is, commands_ahead, transition_ahead}
+use Rattle.vk_model.proofs.World.BytePlaces.{is_in_from}
 
 third : (a b : Bool) → (a || (b || true)) ≡ true
 third true b = refl
@@ -51,7 +51,7 @@ module _ (past : Past) (faultless : fault past ≡ None) (p : Point) (steady : (
   of_images b v is =
       let l = last_transition_is past faultless p steady b v is in
       let t = is_transition_node past faultless p steady b v l.there l.does in
-      let m = moved (t.at ∷ t.before_it) t.at.queue t.is_at.element b (is_there b (transition_bytes (t.at ∷ t.before_it) t.at.queue t.is_at.element) t.covers) in
+      let m = moved (t.at ∷ t.before_it) t.at.queue t.is_at.element b (is_in_from b (transition_bytes (t.at ∷ t.before_it) t.at.queue t.is_at.element) t.covers) in
       record {
         there = l.there;
         changed = m.of;

@@ -37,10 +37,10 @@ use Rattle.vk_laws.proofs.Nodes.Steady.{comes_here, comes_within}
 use Rattle.vk_order.specs.Barriers.{element_node}
 use Rattle.vk_order.proofs.LastWriter as order
 use Rattle.vk_touches.specs.Touched.{only_if, is_transition_of, transition_next, last_element, last_transition}
-use Rattle.vk_touches.proofs.Touching.LastAccesses.{is_there}
 use Rattle.vk_touches.proofs.Touching.LastNodes.{last_found}
 use Rattle.vk_touches.proofs.Touching.LastTransitions.{transition_is, transition_there}
 use Rattle.vk_touches.proofs.Touching.TransitionBytes.{in_back, moved, same_transition, transition_kept, same_cached}
+use Rattle.vk_model.proofs.World.BytePlaces.{is_in_from}
 
 -- ---- the nodes of a barrier
 
@@ -136,7 +136,7 @@ module _ (past : Past) (none : fault past ≡ None) (p : Point) (steady : (c : C
   is_transition_node b x there (r, e, is, wrote) =
       let s = at_point past x there in
       let bytes : is_in b (transition_bytes (p ∷ past) x.point.queue e) ≡ true = ap (λ (a : Act). is_in b (writes_of (p ∷ past) x.point.queue a)) (sym is) ∙ wrote in
-      let m = moved (p ∷ past) x.point.queue e b (is_there b (transition_bytes (p ∷ past) x.point.queue e) bytes) in
+      let m = moved (p ∷ past) x.point.queue e b (is_in_from b (transition_bytes (p ∷ past) x.point.queue e) bytes) in
       let barrier = image_element s.at.action r m.of (subst (λ (a : Act). Contains (acts s.at.action) a) (is ∙ ap (Depends r) m.named) s.acted) in
       by_barrier s.newer s.past s.at s.whole s.here s.new s.pointed barrier.0 barrier.1 bytes
     where
@@ -255,7 +255,7 @@ module _ (past : Past) (none : fault past ≡ None) (p : Point) (steady : (c : C
   wrote_then b v t x there_then (r, e, is, wrote) =
       let s = at_point (t.at ∷ t.before_it) x there_then in
       let bytes : is_in b (transition_bytes (p ∷ past) x.point.queue e) ≡ true = ap (λ (a : Act). is_in b (writes_of (p ∷ past) x.point.queue a)) (sym is) ∙ wrote in
-      let m = moved (p ∷ past) x.point.queue e b (is_there b (transition_bytes (p ∷ past) x.point.queue e) bytes) in
+      let m = moved (p ∷ past) x.point.queue e b (is_in_from b (transition_bytes (p ∷ past) x.point.queue e) bytes) in
       let barrier = image_element s.at.action r m.of (subst (λ (a : Act). Contains (acts s.at.action) a) (is ∙ ap (Depends r) m.named) s.acted) in
       let split : past ≡ (t.newer ++ s.newer) ++ s.at ∷ s.past = t.whole ∙ ap (λ (q : Past). t.newer ++ q) s.whole ∙ sym (append_assoc t.newer s.newer (s.at ∷ s.past)) in
       let among : Contains barrier.0 e = of_barrier s.at.action barrier.0 barrier.1 (subst (λ (a : Act). Contains (acts s.at.action) a) is s.acted) in
@@ -281,13 +281,13 @@ module _ (past : Past) (none : fault past ≡ None) (p : Point) (steady : (c : C
     same ge = subst (λ (n : Node). is_seen (p ∷ past) n y k b ≡ true) (unique (nodes past) (numbered past) v x l.there there (omega (arith, le, ge))) seen_v
 
     written : Contains (writes (t.at ∷ t.before_it) v) b
-    written = is_there b (writes (t.at ∷ t.before_it) v) (wrote_then b v t v t.here l.does)
+    written = is_in_from b (writes (t.at ∷ t.before_it) v) (wrote_then b v t v t.here l.does)
 
     device : is_host v.act ≡ false
     device = rw (l.does.2) refl
 
     still_then : is_cached (p ∷ past) (resource_at b) ≡ is_cached (t.at ∷ t.before_it) (resource_at b)
-    still_then = still ∙ of_image t.is_at.element (is_there b (transition_bytes (t.at ∷ t.before_it) t.at.queue t.is_at.element) t.covers) (member t.elements t.is_at.front t.is_at.back t.is_at.element t.is_at.whole) where
+    still_then = still ∙ of_image t.is_at.element (is_in_from b (transition_bytes (t.at ∷ t.before_it) t.at.queue t.is_at.element) t.covers) (member t.elements t.is_at.front t.is_at.back t.is_at.element t.is_at.whole) where
       of_image : (e : Element) → Contains (transition_bytes (t.at ∷ t.before_it) t.at.queue e) b → Contains t.elements e → is_cached past (resource_at b) ≡ is_cached (t.at ∷ t.before_it) (resource_at b)
       of_image e c among =
           let m = moved (t.at ∷ t.before_it) t.at.queue e b c in
@@ -320,7 +320,7 @@ module _ (past : Past) (none : fault past ≡ None) (p : Point) (steady : (c : C
     earlier : x.number < v.number → before (nodes (p ∷ past)) x y ≡ true
     earlier lt =
         let old = in_front b v t x there le in
-        let first : before (nodes past) x v ≡ true = (no_hazard_at t.newer t.before_it t.at t.whole x v old t.here t.new lt (rw (l.does.2) (and-false (is_host x.act)))).read_first b (wrote_then b v t v t.here l.does) (is_there b (reads (t.at ∷ t.before_it) x) (reads_too x does (wrote_then b v t x old does))) in
+        let first : before (nodes past) x v ≡ true = (no_hazard_at t.newer t.before_it t.at t.whole x v old t.here t.new lt (rw (l.does.2) (and-false (is_host x.act)))).read_first b (wrote_then b v t v t.here l.does) (is_in_from b (reads (t.at ∷ t.before_it) x) (reads_too x does (wrote_then b v t x old does))) in
         transitive (p ∷ past) x v y (has_more growth (p ∷ []) past x there) (has_more growth (p ∷ []) past v l.there) has_y ((growth past (p ∷ [])).orders x v l.there ∙ first) h
       where
         -- a transition reads what it writes

@@ -23,7 +23,6 @@ use Rattle.vk_model.proofs.Lists.Members.{any_same, contains-head, contains-tail
 use Rattle.vk_model.proofs.Lists.Truths.{bool_same, clash}
 use Rattle.vk_model.proofs.Sync.Growth.{growth}
 use Rattle.vk_model.proofs.Sync.Numbers.{numbered}
-use Rattle.vk_laws.proofs.Accesses.TaskAccesses.{byte_itself}
 use Rattle.vk_laws.proofs.Nodes.Prefixes.{has_more}
 use Rattle.vk_order.specs.Barriers.{element_node, with_barrier, ElementsComeAlone, ElementsSeeAlone}
 use Rattle.vk_order.specs.Limited.{IsWrite}
@@ -33,11 +32,12 @@ use Rattle.vk_order.specs.Wide.{is_wide}
 use Rattle.vk_touches.specs.declared.touches.Touch.TheVariants as touch
 use Rattle.vk_touches.specs.Touched.{last_touch, last_transition}
 use Rattle.vk_touches.proofs.Touching.AllTransitions.{element_at, last_transition_is}
-use Rattle.vk_touches.proofs.Touching.LastAccesses.{is_there, last_touch_is}
+use Rattle.vk_touches.proofs.Touching.LastAccesses.{last_touch_is}
 use Rattle.vk_touches.proofs.Touching.LastHazards.{Way, By, Moving, OnQueues, StaysCached, early, early_is, last_way, read_ways, some_last, unseen, unseen_is, way_is, write_ways}
 use Rattle.vk_touches.proofs.Touching.LastTransitions.{element_there}
 use Rattle.vk_touches.proofs.Touching.NextNodes.{lined, next_nodes-lined}
 use Rattle.vk_touches.proofs.Touching.TransitionBytes.{moved, moved_twice, pair_apart, unwritten}
+use Rattle.vk_model.proofs.World.BytePlaces.{is_in_from, is_in_of}
 
 -- ---- in a list
 
@@ -79,11 +79,6 @@ unseen_alone past p e k v b = not (seen (λ c. is_cached (p ∷ past) (resource_
 abbrev pub moved_ways : List (Bool × Way)
 moved_ways = (true, By touch.Write) ∷ (true, Moving) ∷ []
 
--- a transition sees alike for reads and for writes
-pub unseen_alike : (past : Past) (p : Point) (e : Element) (j k : Access) (v : Node) (b : Byte) → unseen_alone past p e j v b ≡ unseen_alone past p e k v b
-unfolding seen
-unseen_alike past p e j k v b = refl
-
 -- ---- a barrier that breaks no OVERLAP
 
 module _ (past : Past) (none : fault past ≡ None) (p : Point) (es : List Element) (runs : p.action ≡ Run (cmd.Barrier es)) (apart : breaks_overlap past p ≡ false) where
@@ -112,24 +107,21 @@ module _ (past : Past) (none : fault past ≡ None) (p : Point) (es : List Eleme
   abbrev Common : (Past → Node → Node → Bool) → Type 0
   Common kind = (i j : ℕ) (d e : Element) → kind (p ∷ past) (element_node p i d) (element_node p j e) ≡ true → (b : Byte) × (is_in b (bytes d) ≡ true) × (is_in b (bytes e) ≡ true)
 
-  listed : (b : Byte) (bs : List Byte) → Contains bs b → is_in b bs ≡ true
-  listed b bs c = member_passes _ bs b c (byte_itself b)
-
   war_common : Common war
   war_common i j d e h =
       let shared = (and_parts (share (bytes d) (bytes e)) (not (before (nodes (p ∷ past)) (element_node p i d) (element_node p j e))) h).0 in
       let b = some_member (λ b. is_in b (bytes e)) (bytes d) shared in
-      (b.0, listed b.0 (bytes d) b.1, b.2)
+      (b.0, is_in_of b.0 (bytes d) b.1, b.2)
 
   raw_common : Common raw
   raw_common i j d e h =
       let b = some_member (λ b. is_in b (bytes d) && not (is_seen (p ∷ past) (element_node p i d) (element_node p j e) Read b)) (bytes e) h in
-      (b.0, (and_parts _ _ b.2).0, listed b.0 (bytes e) b.1)
+      (b.0, (and_parts _ _ b.2).0, is_in_of b.0 (bytes e) b.1)
 
   waw_common : Common waw
   waw_common i j d e h =
       let b = some_member (λ b. is_in b (bytes d) && not (is_seen (p ∷ past) (element_node p i d) (element_node p j e) Write b)) (bytes e) h in
-      (b.0, (and_parts _ _ b.2).0, listed b.0 (bytes e) b.1)
+      (b.0, (and_parts _ _ b.2).0, is_in_of b.0 (bytes e) b.1)
 
   module _ (done back : List Element) (e : Element) (whole : es ≡ done ++ e ∷ back) where
     abbrev y : Node
@@ -202,7 +194,7 @@ module _ (past : Past) (none : fault past ≡ None) (p : Point) (es : List Eleme
     transition_write b v is =
         let l = last_transition_is past none p steady b v is in
         let wrote : is_in b (transition_bytes (p ∷ past) v.point.queue l.does.1) ≡ true = sym (ap (λ (a : Act). is_in b (writes_of (p ∷ past) v.point.queue a)) l.does.2) ∙ l.does.3 in
-        let m = moved (p ∷ past) v.point.queue l.does.1 b (is_there b (transition_bytes (p ∷ past) v.point.queue l.does.1) wrote) in
+        let m = moved (p ∷ past) v.point.queue l.does.1 b (is_in_from b (transition_bytes (p ∷ past) v.point.queue l.does.1) wrote) in
         record { there = l.there; uncached = ap (λ (a : Act). is_host a && cached b) l.does.2; limited = ap (λ (a : Act). is_element a && is_wide a) (l.does.2 ∙ ap (Depends l.does.0) m.named) }
 
     unseen_same : ElementsSeeAlone → (a : Access) (b : Byte) → some_last past moved_ways (unseen past p y a) b ≡ some_last past moved_ways (unseen_alone past p e a) b
@@ -218,7 +210,7 @@ module _ (past : Past) (none : fault past ≡ None) (p : Point) (es : List Eleme
 
     element_unseen : ElementsSeeAlone → HostSeen → (a : Access) → list_any (λ x. precedes x y && list_any (λ b. is_in b (writes (p ∷ past) x) && not (is_seen (p ∷ past) x y a b)) (bytes e)) (nodes past) ≡ list_any (some_last past moved_ways (unseen_alone past p e a)) (bytes e)
     element_unseen law host_seen a = unseen_is past none p steady y here (omega arith) host_seen still a (bytes e)
-        ∙ any_same _ _ (bytes e) (λ b c. no_host b (listed b (bytes e) c) (unseen past p y a) ∙ unseen_same law a b)
+        ∙ any_same _ _ (bytes e) (λ b c. no_host b (is_in_of b (bytes e) c) (unseen past p y a) ∙ unseen_same law a b)
 
   -- HAZARD_WAR: some element has a byte whose last read or last transition it doesn't come after
   pub war_of_barrier : ElementsComeAlone → LinePrefix → OnQueues past → hazard war past p ≡ list_any (λ e. list_any (some_last past (read_ways false) (early_alone past p e)) (transition_bytes (p ∷ past) p.queue e)) es

@@ -1,22 +1,18 @@
 -- What a byte remembers as the elements of a barrier come, one after another.
-use Rattle.std.proofs.Common.{◌≡◌, ◌≤◌, ℕ, ◌+◌, List, [], ◌∷◌, ◌++◌, length, map, Bool, true, false, refl, ap, ◌∙◌, arith, Option, Some, None}
+use Rattle.std.proofs.Common.{◌≡◌, ℕ, ◌+◌, List, [], ◌∷◌, ◌++◌, length, Bool, true, false, refl, ap, ◌∙◌, arith, Option, Some, None}
 use Rattle.std.specs.Prelude.{if◌then◌else◌}
 use Rattle.std.specs.Option.{option_or, option_map_or}
-use Rattle.std.proofs.lemmas.List.{map-append}
 use Rattle.vk_model.specs.declared.command.Cmd.TheVariants as cmd
 use Rattle.vk_model.specs.declared.command.Element.{Element}
 use Rattle.vk_model.specs.World.Bytes.{Byte}
-use Rattle.vk_model.specs.Trace.Point.{Past, Point, Action, Run}
-use Rattle.vk_model.specs.Sync.Node.{Node, Act, Depends, Barrier, nodes, acts, with_acts}
-use Rattle.vk_order.specs.Barriers.{element_node, with_barrier}
-use Rattle.vk_order.specs.Lines.{place, class_on}
-use Rattle.vk_order.specs.declared.lines.Line.{Line}
+use Rattle.vk_model.specs.Trace.Point.{Past, Point}
+use Rattle.vk_model.specs.Sync.Node.{Node, nodes}
+use Rattle.vk_order.specs.Barriers.{element_node}
 use Rattle.vk_order.proofs.PlaceLemmas as places
 use Rattle.vk_touches.specs.declared.touches.LastTouches.{LastTouches}
 use Rattle.vk_touches.specs.declared.touches.Spot.{Spot}
 use Rattle.vk_touches.specs.Remembered.{with_transition}
 use Rattle.vk_touches.specs.Touched.{only_if, is_transition_of, last_element, spot_of, touched}
-use Rattle.vk_touches.proofs.Touching.Remembering.{touched_by_barrier}
 
 -- one more element
 pub last_element-push : (p : Point) (test : Element → Bool) (k : ℕ) (front : List Element) (e : Element)
@@ -52,31 +48,3 @@ module _ (past : Past) (p : Point) (b : Byte) where
       go true None = refl
       go true (Some v) = refl
       go false o = refl
-
-  -- after all of them
-  pub after_barrier : (es : List Element) → p.action ≡ Run (cmd.Barrier es) → touched (p ∷ past) b ≡ touched_after es
-  after_barrier es is = touched_by_barrier past p b es is
-
--- where an element of a barrier is: the elements before it have come
-pub element_spot : (past : Past) (p : Point) (front back : List Element) (e : Element) → p.action ≡ Run (cmd.Barrier (front ++ e ∷ back))
-    → (let l : Line = class_on p.queue (Depends Barrier e) in let k : ℕ = length (nodes past) + length front in
-    spot_of (p ∷ past) (element_node p k e) ≡ record { line = l; place = place (with_barrier p front (nodes past)) l k; number = k })
-element_spot past p front back e is =
-    let all : nodes (p ∷ past) ≡ with_acts p (map (Depends Barrier) (e ∷ back)) (with_barrier p front (nodes past)) =
-    ap (λ (d : Action). with_acts p (acts d) (nodes past)) is ∙ ap (λ (more : List Act). with_acts p more (nodes past)) (map-append (Depends Barrier) front (e ∷ back)) ∙ in_turn (map (Depends Barrier) front) (map (Depends Barrier) (e ∷ back)) (nodes past) in
-    ap (λ (j : ℕ). record { line = l; place = j; number = k })
-    (ap (λ (ns : List Node). place ns l k) all ∙ places.place_stays p (map (Depends Barrier) (e ∷ back)) (with_barrier p front (nodes past)) l k (count front (nodes past)))
-  where
-    l : Line
-    l = class_on p.queue (Depends Barrier e)
-
-    k : ℕ
-    k = length (nodes past) + length front
-
-    in_turn : (xs ys : List Act) (ns : List Node) → with_acts p (xs ++ ys) ns ≡ with_acts p ys (with_acts p xs ns)
-    in_turn [] ys ns = refl
-    in_turn (x ∷ xs) ys ns = in_turn xs ys (record { number = length ns; point = p; act = x } ∷ ns)
-
-    count : (es : List Element) (ns : List Node) → length ns + length es ≤ length (with_barrier p es ns)
-    count [] ns = omega arith
-    count (f ∷ es) ns = let h = count es (element_node p (length ns) f ∷ ns) in omega (arith, h)

@@ -28,15 +28,11 @@ use Rattle.vk_laws.proofs.Nodes.Steady.{commands_stay, comes_here, new_ids, live
 use Rattle.vk_laws.proofs.Nodes.Actions.{host_action}
 use Rattle.vk_laws.proofs.Nodes.Points.{at_point, action_of, older_node}
 use Rattle.vk_laws.proofs.Nodes.Prefixes.{has_more}
-use Rattle.vk_laws.proofs.Accesses.TaskAccesses.{byte_same}
 use Rattle.vk_touches.specs.declared.touches.Touch.{Touch}
 use Rattle.vk_touches.specs.declared.touches.Touch.TheVariants as touch
 use Rattle.vk_touches.specs.Touched.{next_node, act_next, touches, touch_next, last_touch}
 use Rattle.vk_touches.proofs.Touching.LastNodes.{last_found, HasLast, last_from, toucher_is, touchers_own, touches_alone, next_there, only_new}
-
--- a byte that is in a list is a member
-pub is_there : (c : Byte) (bs : List Byte) → IsTrue (is_in c bs) → Contains bs c
-is_there c bs h = let s = some_member _ bs h in subst (λ (b : Byte). Contains bs b) (sym (byte_same c s.0 s.2)) s.1
+use Rattle.vk_model.proofs.World.BytePlaces.{byte_same, is_in_from}
 
 module _ (past : Past) (none : fault past ≡ None) (p : Point) (steady : (c : Cmd) → byte_writes (p ∷ past) c ≡ byte_writes past c) where
   sound : IsUnbroken past
@@ -201,7 +197,7 @@ module _ (past : Past) (none : fault past ≡ None) (p : Point) (steady : (c : C
 
     -- the host reached the byte's resource at its last write as it does now
     still_then : is_cached (p ∷ past) (resource_at b) ≡ is_cached (l.at ∷ l.older) (resource_at b)
-    still_then = still ∙ sym (same_cached past l.newer (l.at ∷ l.older) l.whole (new_ids past sound) (live_ids past sound) v l.here (ap accesses l.runs_it) b (l.at ∷ l.older) (is_there b (writes (l.at ∷ l.older) v) l.wrote))
+    still_then = still ∙ sym (same_cached past l.newer (l.at ∷ l.older) l.whole (new_ids past sound) (live_ids past sound) v l.here (ap accesses l.runs_it) b (l.at ∷ l.older) (is_in_from b (writes (l.at ∷ l.older) v) l.wrote))
 
     in_past : Contains (nodes (l.newer ++ l.at ∷ l.older)) x
     in_past = subst (λ (q : Past). Contains (nodes q) x) l.whole there
@@ -214,7 +210,7 @@ module _ (past : Past) (none : fault past ≡ None) (p : Point) (steady : (c : C
         let m = is_command_of x c there runs in
         let in_old : Contains (nodes (l.at ∷ l.older)) x = old lt in
         subst (λ (q : Past). seen (λ d. is_cached (p ∷ past) (resource_at d)) (nodes (p ∷ q)) x y k b ≡ true) (sym l.whole)
-        (order.last_writer growth l.older (p ∷ l.newer) l.at (λ d. is_cached (p ∷ past) (resource_at d)) x v y k b (free l.newer l.older l.at l.whole) still_then in_old l.here (let n = l.number in omega (arith, n)) lt (ap is_host l.runs_it) (wrote_then in_old) (is_there b (writes (l.at ∷ l.older) v) l.wrote)
+        (order.last_writer growth l.older (p ∷ l.newer) l.at (λ d. is_cached (p ∷ past) (resource_at d)) x v y k b (free l.newer l.older l.at l.whole) still_then in_old l.here (let n = l.number in omega (arith, n)) lt (ap is_host l.runs_it) (wrote_then in_old) (is_in_from b (writes (l.at ∷ l.older) v) l.wrote)
         (subst (λ (q : Past). seen (λ d. is_cached (p ∷ past) (resource_at d)) (nodes (p ∷ q)) v y k b ≡ true) l.whole seen_v))
       where
         old : x.number < v.number → Contains (nodes (l.at ∷ l.older)) x

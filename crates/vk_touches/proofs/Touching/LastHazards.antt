@@ -20,7 +20,6 @@ use Rattle.vk_model.proofs.Lists.Members.{some_member, member_passes, contains-c
 use Rattle.vk_model.proofs.Lists.Truths.{bool_same, clash, no}
 use Rattle.vk_model.proofs.Sync.Growth.{growth}
 use Rattle.vk_model.proofs.Sync.Numbers.{numbered, number_below, unique}
-use Rattle.vk_laws.proofs.Accesses.TaskAccesses.{byte_itself}
 use Rattle.vk_laws.proofs.Nodes.Prefixes.{has_more}
 use Rattle.vk_order.specs.declared.lines.Line.{Line}
 use Rattle.vk_order.specs.declared.lines.Line.TheVariants.{Host as OfHost, Commands as OfCommands}
@@ -33,8 +32,9 @@ use Rattle.vk_touches.specs.Touched.{next_node, last_touch, last_transition}
 use Rattle.vk_laws.proofs.Forms.Spread.{any_and}
 use Rattle.vk_touches.proofs.Touching.NextNodes.{lined, next_nodes-lined}
 use Rattle.vk_touches.proofs.Touching.LastNodes.{next_there}
-use Rattle.vk_touches.proofs.Touching.LastAccesses.{is_there, Touches, touch_last, last_touch_is, all_seen}
+use Rattle.vk_touches.proofs.Touching.LastAccesses.{Touches, touch_last, last_touch_is, all_seen}
 use Rattle.vk_touches.proofs.Touching.AllTransitions.{Transits, transition_last, last_transition_is, all_transitions_seen, all_transitions_before}
+use Rattle.vk_model.proofs.World.BytePlaces.{is_in_from, is_in_of}
 
 -- the node of a point with one act is its only one
 pub one_next : (past : Past) (p : Point) (a : Act) → acts p.action ≡ a ∷ [] → next_nodes past p ≡ next_node past p a ∷ []
@@ -68,14 +68,11 @@ StaysCached past p = (r : ℕ) → is_cached (p ∷ past) r ≡ is_cached past r
 -- a list of which one item is in another, turned about
 share_turned : (bs cs : List Byte) → share bs cs ≡ list_any (λ c. is_in c bs) cs
 share_turned bs cs = bool_same _ _ to from where
-  there : (b : Byte) (ds : List Byte) → Contains ds b → is_in b ds ≡ true
-  there b ds c = member_passes _ ds b c (byte_itself b)
-
   to : share bs cs ≡ true → list_any (λ c. is_in c bs) cs ≡ true
-  to h = let b = some_member (λ b. is_in b cs) bs h in member_passes (λ c. is_in c bs) cs b.0 (is_there b.0 cs b.2) (there b.0 bs b.1)
+  to h = let b = some_member (λ b. is_in b cs) bs h in member_passes (λ c. is_in c bs) cs b.0 (is_in_from b.0 cs b.2) (is_in_of b.0 bs b.1)
 
   from : list_any (λ c. is_in c bs) cs ≡ true → share bs cs ≡ true
-  from h = let c = some_member (λ c. is_in c bs) cs h in member_passes (λ b. is_in b cs) bs c.0 (is_there c.0 bs c.2) (there c.0 cs c.1)
+  from h = let c = some_member (λ c. is_in c bs) cs h in member_passes (λ b. is_in b cs) bs c.0 (is_in_from c.0 bs c.2) (is_in_of c.0 cs c.1)
 
 -- ---- ways to touch a byte
 

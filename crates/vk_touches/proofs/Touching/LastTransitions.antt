@@ -5,10 +5,10 @@ use Rattle.std.specs.List.{list_any}
 use Rattle.std.specs.Option.{option_map, option_or}
 use Rattle.vk_model.specs.declared.command.Cmd.TheVariants as cmd
 use Rattle.vk_model.specs.declared.command.Element.{Element}
-use Rattle.vk_model.specs.World.Bytes.{Byte, in_buffer}
+use Rattle.vk_model.specs.World.Bytes.{Byte}
 use Rattle.vk_model.specs.Trace.Point.{Past, Point, Action, Run}
 use Rattle.vk_model.specs.Sync.Node.{Node, Act, Depends, Barrier, nodes, acts, with_acts}
-use Rattle.vk_model.proofs.Lists.Members.{contains-head, none_passes_any}
+use Rattle.vk_model.proofs.Lists.Members.{contains-head}
 use Rattle.vk_model.proofs.Sync.Numbers.{numbered, number_below}
 use Rattle.vk_model.proofs.Sync.NewNodes.{with_acts_keeps}
 use Rattle.vk_laws.proofs.Nodes.Counts.{more_nodes}
@@ -16,7 +16,6 @@ use Rattle.vk_order.specs.Barriers.{element_node}
 use Rattle.vk_touches.specs.Touched.{only_if, is_transition_of, has_transition, last_element, transition_next, last_transition, transition_spot, spot_of}
 use Rattle.vk_touches.proofs.Touching.LastNodes.{last_found}
 use Rattle.vk_touches.proofs.Touching.Spots.{spot_stays}
-use Rattle.vk_touches.proofs.Touching.TransitionBytes.{no_buffer}
 
 -- ---- the last element that passes a test
 
@@ -119,14 +118,3 @@ transition_step past p b = go (transition_next b past p p.action) where
 -- where it was, unless the point has one
 pub transition_stays : (past : Past) (p : Point) (b : Byte) → has_transition b past p p.action ≡ false → transition_spot (p ∷ past) b ≡ transition_spot past b
 transition_stays past p b none = transition_step past p b ∙ ap (λ (o : Option Node). option_or (option_map (spot_of (p ∷ past)) o) (transition_spot past b)) (no_transition b past p p.action none)
-
--- ---- bytes of buffers
-
--- none is of a byte of a buffer
-pub buffer_has_none : (past : Past) (p : Point) (c k : ℕ) (d : Action) → has_transition (in_buffer c k) past p d ≡ false
-buffer_has_none past p c k (Run (cmd.Barrier es)) = none_passes_any (is_transition_of (p ∷ past) p.queue (in_buffer c k)) es (λ e there. no_buffer (p ∷ past) p.queue e c k)
-buffer_has_none past p c k _ = refl
-
-pub buffer_transition : (past : Past) (c k : ℕ) → last_transition past (in_buffer c k) ≡ None
-buffer_transition [] c k = refl
-buffer_transition (p ∷ past) c k = rw (no_transition (in_buffer c k) past p p.action (buffer_has_none past p c k p.action)) (buffer_transition past c k)

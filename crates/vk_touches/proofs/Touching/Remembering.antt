@@ -1,12 +1,11 @@
 -- What a byte remembers after a point.
-use Rattle.std.proofs.Common.{arith, ◌<◌, ◌≡◌, ℕ, zero, suc, List, ◌∷◌, Bool, true, false, ◌&&◌, ◌==◌, refl, ap, ◌∙◌, Option, Some, None}
+use Rattle.std.proofs.Common.{arith, ◌<◌, ◌≡◌, ℕ, zero, suc, ◌∷◌, Bool, true, false, ◌&&◌, ◌==◌, refl, ap, ◌∙◌, Option, Some, None}
 use Rattle.std.specs.Prelude.{if◌then◌else◌}
-use Rattle.std.specs.Option.{option_map, option_map_or, option_or}
+use Rattle.std.specs.Option.{option_map, option_or}
 use Rattle.std.proofs.lemmas.Bool.{eqb-true, false_from_ne_true}
 use Rattle.std.proofs.Math.Bool.{and-false}
 use Rattle.vk_model.specs.declared.command.Cmd.{Cmd}
 use Rattle.vk_model.specs.declared.command.Cmd.TheVariants as cmd
-use Rattle.vk_model.specs.declared.command.Element.{Element}
 use Rattle.vk_model.specs.declared.command.Length.{Length}
 use Rattle.vk_model.specs.declared.entry.Entry.{Entry}
 use Rattle.vk_model.specs.declared.entry.Entry.TheVariants as entry
@@ -15,7 +14,7 @@ use Rattle.vk_model.specs.World.Bytes.{Byte}
 use Rattle.vk_model.specs.World.ByteWrites.{byte_writes}
 use Rattle.vk_model.specs.Trace.Point.{Past, Point, Action, Host, Run}
 use Rattle.vk_model.specs.World.Effect.{reaches}
-use Rattle.vk_model.specs.Sync.Node.{Node, Hosts, nodes}
+use Rattle.vk_model.specs.Sync.Node.{Hosts, nodes}
 use Rattle.vk_model.specs.Sync.Seen.{Read, seen, flushes, invalidates}
 use Rattle.vk_order.specs.Cached.{uncached}
 use Rattle.vk_model.specs.Sync.Access.{is_in, targets, origins, host_reads, host_writes}
@@ -23,10 +22,10 @@ use Rattle.vk_touches.specs.declared.touches.LastTouches.{LastTouches}
 use Rattle.vk_touches.specs.declared.touches.Spot.{Spot}
 use Rattle.vk_touches.specs.declared.touches.Touch.{Touch}
 use Rattle.vk_touches.specs.declared.touches.Touch.TheVariants as touch
-use Rattle.vk_touches.specs.Remembered.{with_touch, with_flush, with_transition, with_invalidation}
-use Rattle.vk_touches.specs.Touched.{touches, has_transition, touched, last_spot, last_place, last_touch, transition_next, transition_spot, spot_of, next_node, act_next, next_spot}
+use Rattle.vk_touches.specs.Remembered.{with_touch, with_flush, with_invalidation}
+use Rattle.vk_touches.specs.Touched.{touches, has_transition, touched, last_spot, last_place, last_touch, transition_spot, next_node, act_next, next_spot}
 use Rattle.vk_touches.proofs.Touching.Flushing.{flush_step, invalidated_step}
-use Rattle.vk_touches.proofs.Touching.LastTransitions.{transition_stays, transition_step}
+use Rattle.vk_touches.proofs.Touching.LastTransitions.{transition_stays}
 use Rattle.vk_touches.proofs.Touching.Spots.{last_step}
 
 -- ---- in general
@@ -107,21 +106,6 @@ module _ (past : Past) (p : Point) (b : Byte) where
   pub touched_by_command : (c : Cmd) → p.action ≡ Run c → has_transition b past p (Run c) ≡ false → (w r : Bool) → is_in b (targets (byte_writes (p ∷ past) c)) ≡ w → is_in b (origins (byte_writes (p ∷ past) c)) ≡ r
       → touched (p ∷ past) b ≡ merged w false false (λ q. p.queue == q && r) false false false (touched past b) (next_spot past p)
   touched_by_command c is still w r we re = touched_as (Run c) is still ∙ rw (we, re) refl
-
-  -- a barrier
-  pub touched_by_barrier : (es : List Element) → p.action ≡ Run (cmd.Barrier es)
-      → touched (p ∷ past) b ≡ option_map_or (λ v. with_transition (touched past b) (spot_of (p ∷ past) v)) (transition_next b past p (Run (cmd.Barrier es))) (touched past b)
-  touched_by_barrier es is =
-      touched_step
-      ∙ ap (λ (d : Action). record (by_action d) { transition = transition_spot (p ∷ past) b }) is
-      ∙ rw (and-false (p.queue == 0), and-false (p.queue == 1), and-false (p.queue == 2), and-false (p.queue == 3)) (ap (λ (s : Option Spot). record (touched past b) { transition = s }) moved ∙ go (transition_next b past p (Run (cmd.Barrier es))))
-    where
-      moved : transition_spot (p ∷ past) b ≡ option_or (option_map (spot_of (p ∷ past)) (transition_next b past p (Run (cmd.Barrier es)))) (transition_spot past b)
-      moved = transition_step past p b ∙ ap (λ (d : Action). option_or (option_map (spot_of (p ∷ past)) (transition_next b past p d)) (transition_spot past b)) is
-
-      go : (o : Option Node) → record (touched past b) { transition = option_or (option_map (spot_of (p ∷ past)) o) (transition_spot past b) } ≡ option_map_or (λ v. with_transition (touched past b) (spot_of (p ∷ past) v)) o (touched past b)
-      go None = refl
-      go (Some v) = refl
 
 -- ---- one by one
 

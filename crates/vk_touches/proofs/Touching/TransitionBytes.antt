@@ -26,9 +26,9 @@ use Rattle.vk_model.specs.Rules.Ranges.{transitions_meet}
 use Rattle.vk_model.proofs.Lists.Grids.{grid_from}
 use Rattle.vk_model.proofs.Lists.Members.{contains-cons, contains-head, contains-tail, flat_from, flat_has, mapped_from, member_passes, none_in, range_from, some_member}
 use Rattle.vk_model.proofs.Lists.Truths.{clash, unless}
-use Rattle.vk_laws.proofs.Accesses.TaskAccesses.{byte_same}
 use Rattle.vk_laws.proofs.Caching.CachedStays.{cached_stays}
 use Rattle.vk_laws.proofs.Nodes.Steady.{IsLive, IsNew, comes_within, live_ids, live_made, made_step, made_until, made_up, named_alive, new_ids}
+use Rattle.vk_model.proofs.World.BytePlaces.{byte_same, is_in_from, common_meets}
 
 -- ---- which bytes
 
@@ -92,18 +92,15 @@ host_bytes x b (inr c) = reads x c where
   reads (entry.Read i o n) c = let m = mapped_from (λ k. in_buffer i (o + k)) (below n) b c in (i, o + m.0, sym m.2)
   reads _ c = absurd (none_in b c)
 
-in_list : (b : Byte) (bs : List Byte) → is_in b bs ≡ true → Contains bs b
-in_list b bs h = let s = some_member _ bs h in subst (λ (c : Byte). Contains bs c) (sym (byte_same b s.0 s.2)) s.1
-
 pub unwritten : (past : Past) (q : ℕ) (e : Element) (b : Byte) (x : Entry) → is_in b (transition_bytes past q e) ≡ true → is_in b (host_writes x) ≡ true → ⊥
-unwritten past q e b x h w = let m = moved past q e b (in_list b (transition_bytes past q e) h) in let c = host_bytes x b (inl (in_list b (host_writes x) w)) in let byte = m.byte in let bad = c.2 in cc
+unwritten past q e b x h w = let m = moved past q e b (is_in_from b (transition_bytes past q e) h) in let c = host_bytes x b (inl (is_in_from b (host_writes x) w)) in let byte = m.byte in let bad = c.2 in cc
 
 pub unread : (past : Past) (q : ℕ) (e : Element) (b : Byte) (x : Entry) → is_in b (transition_bytes past q e) ≡ true → is_in b (host_reads x) ≡ true → ⊥
-unread past q e b x h r = let m = moved past q e b (in_list b (transition_bytes past q e) h) in let c = host_bytes x b (inr (in_list b (host_reads x) r)) in let byte = m.byte in let bad = c.2 in cc
+unread past q e b x h r = let m = moved past q e b (is_in_from b (transition_bytes past q e) h) in let c = host_bytes x b (inr (is_in_from b (host_reads x) r)) in let byte = m.byte in let bad = c.2 in cc
 
 -- and none is a buffer's
 pub no_buffer : (past : Past) (q : ℕ) (e : Element) (c k : ℕ) → is_in (in_buffer c k) (transition_bytes past q e) ≡ false
-no_buffer past q e c k = false_from_ne_true _ (λ h. let m = moved past q e (in_buffer c k) (in_list (in_buffer c k) (transition_bytes past q e) h) in let byte = m.byte in cc)
+no_buffer past q e c k = false_from_ne_true _ (λ h. let m = moved past q e (in_buffer c k) (is_in_from (in_buffer c k) (transition_bytes past q e) h) in let byte = m.byte in cc)
 
 -- ---- they stay
 
@@ -161,14 +158,11 @@ module _ (past : Past) (sound : IsUnbroken past) (newer before : Past) (q : Poin
 
 -- ---- two of one command
 
-levels_meet : (a n b m k : ℕ) → a ≤ k → k < a + n → b ≤ k → k < b + m → ranges_meet a n b m ≡ true
-levels_meet a n b m k al ah bl bh = rw (lt-ltb 0 n (omega arith), lt-ltb 0 m (omega arith), lt-ltb a (b + m) (omega arith), lt-ltb b (a + n) (omega arith)) refl
-
 -- two transitions of a byte meet
 pub moved_twice : (past : Past) (q : ℕ) (d e : Element) (b : Byte) → is_in b (transition_bytes past q d) ≡ true → is_in b (transition_bytes past q e) ≡ true → transitions_meet d e ≡ true
 moved_twice past q d e b hd he =
-    let m = moved past q d b (in_list b (transition_bytes past q d) hd) in
-    let n = moved past q e b (in_list b (transition_bytes past q e) he) in
+    let m = moved past q d b (is_in_from b (transition_bytes past q d) hd) in
+    let n = moved past q e b (is_in_from b (transition_bytes past q e) he) in
     let same : in_image m.of.image m.level m.layer m.x m.y m.texel_byte ≡ in_image n.of.image n.level n.layer n.x n.y n.texel_byte = sym m.byte ∙ n.byte in
     let image_same : m.of.image ≡ n.of.image = (cc) in
     let level_same : m.level ≡ n.level = (cc) in
@@ -182,8 +176,8 @@ moved_twice past q d e b hd he =
       eq-eqb m.of.image n.of.image image_same,
       m.moves,
       n.moves,
-      levels_meet m.of.range.first_level m.of.range.levels n.of.range.first_level n.of.range.levels m.level m.level_low m.level_high (omega arith) (omega arith),
-      levels_meet m.of.range.first_layer m.of.range.layers n.of.range.first_layer n.of.range.layers m.layer m.layer_low m.layer_high (omega arith) (omega arith),
+      common_meets m.of.range.first_level m.of.range.levels n.of.range.first_level n.of.range.levels m.level m.level_low m.level_high (omega arith) (omega arith),
+      common_meets m.of.range.first_layer m.of.range.layers n.of.range.first_layer n.of.range.layers m.layer m.layer_low m.layer_high (omega arith) (omega arith),
     ) refl)
 
 module _ {A : Type 0} (back : List A) (e : A) where

@@ -1,6 +1,5 @@
 -- Lists of dependencies, one by one.
-use Rattle.std.proofs.Common.{◌≡◌, ◌<◌, ◌≤◌, ◌+◌, ℕ, suc, List, [], ◌∷◌, length, drop, get_or, Bool, true, false, ◌&&◌, refl, ap, arith, add-one, drop-cons}
-use Rattle.std.proofs.lemmas.List.{drop_all}
+use Rattle.std.proofs.Common.{◌≡◌, ◌<◌, ◌+◌, ℕ, suc, List, [], ◌∷◌, length, drop, get_or, Bool, true, false, ◌&&◌, refl, ap, arith, add-one, drop-cons}
 use Rattle.vk_model.specs.declared.command.Dependency.{Dependency}
 use Rattle.vk_model.specs.Rules.Synchronization.{same_dependency, same_dependencies}
 
@@ -16,6 +15,3 @@ unequal_lengths (x ∷ xs) (y ∷ ys) other = go (same_dependency x y) (unequal_
 pub one_more : (xs ys : List Dependency) (i : ℕ) (d : Dependency) → i < length xs → length xs ≡ length ys
     → same_dependencies (drop i xs) (drop i ys) ≡ (same_dependency (get_or xs i d) (get_or ys i d) && same_dependencies (drop (i + 1) xs) (drop (i + 1) ys))
 one_more xs ys i d lt e = rw (add-one, drop-cons xs i d lt, drop-cons ys i d (omega (arith, lt, e))) refl
-
-pub all_done : (xs ys : List Dependency) (i : ℕ) → length xs ≤ i → length xs ≡ length ys → same_dependencies (drop i xs) (drop i ys) ≡ true
-all_done xs ys i le e = rw (drop_all i xs le, drop_all i ys (omega (arith, le, e))) refl

@@ -9,7 +9,6 @@ use Rattle.vk_model.specs.declared.command.BufferCopy.{BufferCopy}
 use Rattle.vk_model.specs.declared.command.BufferImageCopy.{BufferImageCopy}
 use Rattle.vk_model.specs.declared.command.ImageCopy.{ImageCopy}
 use Rattle.vk_model.specs.declared.command.SubresourceRange.{SubresourceRange}
-use Rattle.vk_model.specs.declared.command.Element.{Element}
 use Rattle.vk_model.specs.declared.command.Cmd.TheVariants as cmd
 use Rattle.vk_model.specs.declared.resource.ImageInfo.{ImageInfo}
 use Rattle.vk_model.specs.Basics.{some_pair, holds, among}
@@ -17,11 +16,12 @@ use Rattle.vk_model.specs.Trace.Image.{texel}
 use Rattle.vk_model.specs.Trace.Objects.{image}
 use Rattle.vk_model.specs.Trace.Point.{Past}
 use Rattle.vk_model.specs.World.Areas.{Area, Bytes, Rows, Texels, Subresources, areas_meet, areas_read, areas_written, region_box, source_box, destination_box, subresources_meet, rows_meet}
-use Rattle.vk_model.specs.Rules.Ranges.{command_overlaps, writes_overlap, transitions_meet}
+use Rattle.vk_model.specs.Rules.Ranges.{command_overlaps, writes_overlap}
 use Rattle.vk_model.proofs.Lists.Members.{any_map, none_passes_any}
 use Rattle.vk_overlaps.specs.Regions.{copies_meet, copy_meets_source, copies_overlap, regions_meet, image_copies_meet, image_copy_meets_source, image_copies_overlap}
 use Rattle.vk_overlaps.proofs.ListPairs.{pair_map, pair_same, cross_map, empty_cross}
 use Rattle.vk_validate.specs.Inner.Overlapping.{rows_overlap}
+use Rattle.vk_model.proofs.Lists.Truths.{or-false-false}
 
 -- ---- pairs
 
@@ -29,17 +29,10 @@ cross_and : {A : Type 0} (v : Bool) (t : A → A → Bool) (xs ys : List A) → 
 cross_and true t xs ys = refl
 cross_and false t xs ys = none_passes_any _ xs (λ x c. none_passes_any _ ys (λ y d. refl))
 
-cross_none : {A B C : Type 0} (t : B → C → Bool) (f : A → B) (xs : List A) (ys : List C) → ((x : A) (y : C) → t (f x) y ≡ false) → list_any (λ w. list_any (t w) ys) (map f xs) ≡ false
-cross_none t f xs ys none = any_map (λ w. list_any (t w) ys) f xs ∙ none_passes_any _ xs (λ x c. none_passes_any _ ys (λ y d. none x y))
-
 -- areas of one resource
 module _ {A : Type 0} (i : ℕ) (t : A → A → Bool) (f : A → Area) (same : (x y : A) → areas_meet (f x) (f y) ≡ (i == i && t x y)) where
   own_pairs : (xs : List A) → some_pair areas_meet (map f xs) ≡ some_pair t xs
   own_pairs xs = pair_map areas_meet f xs ∙ pair_same _ t xs (λ x y. same x y ∙ ap (λ b. b && t x y) (eq-eqb i i refl))
-
-none_left : (a : Bool) → ((a || false) || false) ≡ a
-none_left true = refl
-none_left false = refl
 
 module _ (past : Past) where
   pub copy_overlaps : (s d : ℕ) (gs : List BufferCopy) → copies_overlap s d gs ≡ command_overlaps past (cmd.Copy s d gs)
@@ -51,10 +44,10 @@ module _ (past : Past) where
       ∙ ap (λ b. some_pair image_copies_meet gs || b) (cross_map areas_meet (λ g. Texels d (destination_box g)) (λ g. Texels s (source_box g)) gs gs ∙ cross_and (d == s) image_copy_meets_source gs gs))
 
   pub clear_overlaps : (i l : ℕ) (color : List ℕ) (rs : List SubresourceRange) → some_pair subresources_meet rs ≡ command_overlaps past (cmd.Clear i l color rs)
-  clear_overlaps i l color rs = sym (ap (λ b. (some_pair areas_meet (map (Subresources i) rs) || b) || false) (empty_cross areas_meet (map (Subresources i) rs)) ∙ none_left _ ∙ own_pairs i subresources_meet (Subresources i) (λ r s. refl) rs)
+  clear_overlaps i l color rs = sym (ap (λ b. (some_pair areas_meet (map (Subresources i) rs) || b) || false) (empty_cross areas_meet (map (Subresources i) rs)) ∙ or-false-false _ ∙ own_pairs i subresources_meet (Subresources i) (λ r s. refl) rs)
 
   pub copy_in_overlaps : (b i l : ℕ) (gs : List BufferImageCopy) → some_pair regions_meet gs ≡ command_overlaps past (cmd.CopyIn b i l gs)
-  copy_in_overlaps b i l gs = sym (ap (λ t. (some_pair areas_meet (map (λ g. Texels i (region_box g)) gs) || t) || false) (go (image past i)) ∙ none_left _ ∙ own_pairs i regions_meet (λ g. Texels i (region_box g)) (λ g h. refl) gs) where
+  copy_in_overlaps b i l gs = sym (ap (λ t. (some_pair areas_meet (map (λ g. Texels i (region_box g)) gs) || t) || false) (go (image past i)) ∙ or-false-false _ ∙ own_pairs i regions_meet (λ g. Texels i (region_box g)) (λ g h. refl) gs) where
     go : (o : Option ImageInfo) → list_any (λ w. list_any (areas_meet w) (elim o [ None ↦ [] | Some m ↦ map (Rows b (texel m.format)) gs ])) (map (λ g. Texels i (region_box g)) gs) ≡ false
     go None = empty_cross areas_meet (map (λ g. Texels i (region_box g)) gs)
     go (Some m) = any_map _ (λ g. Texels i (region_box g)) gs ∙ none_passes_any _ gs (λ g c. any_map (areas_meet (Texels i (region_box g))) (Rows b (texel m.format)) gs ∙ none_passes_any _ gs (λ h d. refl))
@@ -67,10 +60,7 @@ module _ (past : Past) where
         let no_texel : list_any (λ w. list_any (areas_meet w) (map (λ g. Texels i (region_box g)) gs)) (map (Rows b (texel m.format)) gs) ≡ false =
         any_map (λ w. list_any (areas_meet w) (map (λ g. Texels i (region_box g)) gs)) (Rows b (texel m.format)) gs
         ∙ none_passes_any _ gs (λ g c. any_map (areas_meet (Rows b (texel m.format) g)) (λ g. Texels i (region_box g)) gs ∙ none_passes_any _ gs (λ h d. refl)) in
-        ap (λ t. (some_pair areas_meet (map (Rows b (texel m.format)) gs) || t) || false) no_texel ∙ none_left _ ∙ own_pairs b (λ g h. rows_meet (texel m.format) g (texel m.format) h) (Rows b (texel m.format)) (λ g h. refl) gs
-
-  pub transition_overlaps : (es : List Element) → some_pair transitions_meet es ≡ command_overlaps past (cmd.Barrier es)
-  transition_overlaps es = refl
+        ap (λ t. (some_pair areas_meet (map (Rows b (texel m.format)) gs) || t) || false) no_texel ∙ or-false-false _ ∙ own_pairs b (λ g h. rows_meet (texel m.format) g (texel m.format) h) (Rows b (texel m.format)) (λ g h. refl) gs
 
 -- an id twice
 pub twice : (xs ys : List ℕ) → (some_pair nat_eq xs || (list_any (λ i. among i ys) xs || some_pair nat_eq ys)) ≡ some_pair nat_eq (xs ++ ys)

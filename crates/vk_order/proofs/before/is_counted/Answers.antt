@@ -1,10 +1,11 @@
-use Rattle.std.proofs.Common.{◌≡◌, ◌<◌, ◌∷◌, [], List, arith, ℕ, Some, None, sym, ap, ◌∙◌, length, get_or, rules}
+use Rattle.std.proofs.Common.{◌≡◌, List, ℕ, Some, None, sym, ap, ◌∙◌, get_or, rules}
 use Rattle.std.specs.Prelude.{nat_lt, slice_get, slice_index_or}
 use Rattle.std.proofs.lemmas.Option.{slice_get-get_or}
 use Rattle.vk_order.specs.declared.clocks.Stamp.{Stamp}
 use Rattle.vk_order.specs.Inner.Places.{index_in}
 use Rattle.vk_order.proofs.BeforeLemmas.{counted_at, uncounted}
 use Rattle.vk_order.proofs.before.is_counted.Goals as goal
+use Rattle.vk_model.proofs.Lists.Items.{item_at}
 
 pub returns-in-Some : goal.returns-in-Some
 returns-in-Some c = λ rows q r at_q at_r on kept.
@@ -16,10 +17,6 @@ returns-in-Some c = λ rows q r at_q at_r on kept.
     let stamp_t : slice_get stamps c.args.second ≡ Some t = slice_get-get_or stamps c.args.second t c.requires.second ∙ ap Some (sym c.index-stamps-second.is) in
     ap (nat_lt s.place) (c.count_at.ensures ∙ ap (λ (l : List ℕ). slice_index_or l c.in-Some.at 0) (c.as_slice.ensures.value ∙ ap (λ (x : Stamp). x.clock.items) (sym c.index-stamps-second.is)))
     ∙ counted_at rows stamps c.args.lines.now c.args.first c.args.second c.in-Some.at q r s t c.args.line kept at_q at_r stamp_s stamp_t on found
-
-item_at : (xs : List Stamp) (i : ℕ) → i < length xs → (x : Stamp) × (slice_get xs i ≡ Some x)
-item_at [] i lt = absurd (let bad : i < 0 = lt in omega arith)
-item_at (x ∷ xs) i lt = (get_or (x ∷ xs) i x, slice_get-get_or (x ∷ xs) i x lt)
 
 pub returns-in-None : goal.returns-in-None
 returns-in-None c = λ rows q r at_q at_r on kept.

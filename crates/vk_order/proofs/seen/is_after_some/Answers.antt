@@ -9,6 +9,7 @@ use Rattle.vk_order.specs.declared.lines.Line.TheVariants.{Host as OfHost}
 use Rattle.vk_order.specs.declared.writes.First.{First}
 use Rattle.vk_order.specs.PointViews.{node_of, nodes_after}
 use Rattle.vk_order.proofs.seen.is_after_some.Goals as goal
+use Rattle.vk_model.proofs.Lists.Items.{some_same}
 
 abbrev none : First
 none = record { line = OfHost; number = 0 }
@@ -31,18 +32,12 @@ loop-first-preserved c = λ rows test r are at kept i f x lt e at_f. ⊎_elim
     let same : i ≡ k = omega arith in
     let own : First = get_or c.args.firsts.now k none in
     let has = Contains-get_or c.args.firsts.now k none c.loop-first-test.true in
-    let is : own ≡ f = inside own f (sym (slice_get-get_or c.args.firsts.now k none c.loop-first-test.true) ∙ ap (slice_get c.args.firsts.now) (sym same) ∙ e) in
+    let is : own ≡ f = some_same own f (sym (slice_get-get_or c.args.firsts.now k none c.loop-first-test.true) ∙ ap (slice_get c.args.firsts.now) (sym same) ∙ e) in
     let each = are.each own has in
     let off : before (nodes_after [] rows) (node_of own.number each.0) (node_of c.args.number r) ≡ false = sym (c.is_counted.ensures rows each.0 r each.1 at each.2 kept) ∙ c.if-is_counted.false in
-    let row : each.0 ≡ x = one_row each.0 x (sym each.1 ∙ ap (λ (f : First). slice_get rows f.number) is ∙ at_f) in
+    let row : each.0 ≡ x = some_same each.0 x (sym each.1 ∙ ap (λ (f : First). slice_get rows f.number) is ∙ at_f) in
     ap (λ (g : First). before (nodes_after [] rows) (node_of g.number x) (node_of c.args.number r)) (sym is) ∙ ap (λ (y : Row). before (nodes_after [] rows) (node_of own.number y) (node_of c.args.number r)) (sym row) ∙ off)
     (cases_lt i c.loop-first.first-index)
-  where
-    inside : (f g : First) → Some f ≡ Some g → f ≡ g
-    inside f g h = cc
-
-    one_row : (x y : Row) → Some x ≡ Some y → x ≡ y
-    one_row x y e = cc
 
 pub returns-clause-no : goal.returns-clause-no
 returns-clause-no c = λ off rows test r are at kept f x has at_f.

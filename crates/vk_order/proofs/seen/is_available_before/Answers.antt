@@ -6,6 +6,7 @@ use Rattle.vk_order.specs.Inner.Availability.{makes_write_available, is_marked, 
 use Rattle.vk_order.proofs.NamedLemmas.{node_there}
 use Rattle.vk_order.proofs.AfterLemmas.{marked_after, first_after, after_found, first_before}
 use Rattle.vk_order.proofs.seen.is_available_before.Goals as goal
+use Rattle.vk_model.proofs.Lists.Items.{some_same}
 
 pub returns-then-is_marked_by : goal.returns-then-is_marked_by
 returns-then-is_marked_by c = λ quiet are kept at.
@@ -26,7 +27,7 @@ returns-else-is_marked_by c = λ quiet are kept at.
     bool_same c.is_after_some.result (is_after all test n)
     (λ e. let found = c.is_after_some.ensures.yes e rows (is_marked all test) r are at kept in
     let first = are.each found.0 found.2 in
-    let same : first.0 ≡ found.1 = one_row first.0 found.1 (sym first.1 ∙ found.3) in
+    let same : first.0 ≡ found.1 = some_same first.0 found.1 (sym first.1 ∙ found.3) in
     first_after rows test (node_of found.0.number found.1) n (node_there rows found.0.number found.1 found.3) there (ap (λ (x : Row). is_marked all test (node_of found.0.number x)) (sym same) ∙ first.3) found.4)
     (λ h. unless c.is_after_some.result (λ off. ⊎_elim
     (λ m. clash m unmarked)
@@ -34,9 +35,6 @@ returns-else-is_marked_by c = λ quiet are kept at.
     clash first.4 (c.is_after_some.ensures.no (not_true c.is_after_some.result off) rows (is_marked all test) r are at kept first.0 first.1 first.2 first.3))
     (after_found rows test n there h)))
   where
-    one_row : (x y : Row) → Some x ≡ Some y → x ≡ y
-    one_row x y e = cc
-
     not_true : (b : Bool) → not b ≡ true → b ≡ false
     not_true true e = no e
     not_true false e = refl

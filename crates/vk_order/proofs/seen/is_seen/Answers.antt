@@ -9,9 +9,7 @@ use Rattle.vk_order.specs.Wide.{access_of}
 use Rattle.vk_order.specs.Inner.Availability.{IsFrom, IsInTime}
 use Rattle.vk_order.proofs.SeenLemmas.{seen_rows}
 use Rattle.vk_order.proofs.seen.is_seen.Goals as goal
-
-one_row : (x y : Row) → Some x ≡ Some y → x ≡ y
-one_row x y e = cc
+use Rattle.vk_model.proofs.Lists.Items.{some_same}
 
 pub returns : goal.returns
 returns c = λ cached q r at_q at_r same kept.
@@ -28,5 +26,5 @@ returns c = λ cached q r at_q at_r same kept.
     let until : IsInTime rows j b (cached b) k c.served_until.result = subst (λ (t : Bool). IsInTime rows j b t k c.served_until.result) (sym same) c.served_until.ensures in
     let known = seen_rows rows cached b k i j q' r' at_i at_j c.available_from.result from c.served_until.result until c.in_ok-sees.sees (λ g u. c.in_ok-sees.ensures g u kept) in
     known
-    ∙ ap (λ (x : Row). seen cached (nodes_after [] rows) (node_of i x) (node_of j r') k b) (one_row q' q (sym at_i ∙ at_q))
-    ∙ ap (λ (x : Row). seen cached (nodes_after [] rows) (node_of i q) (node_of j x) k b) (one_row r' r (sym at_j ∙ at_r))
+    ∙ ap (λ (x : Row). seen cached (nodes_after [] rows) (node_of i x) (node_of j r') k b) (some_same q' q (sym at_i ∙ at_q))
+    ∙ ap (λ (x : Row). seen cached (nodes_after [] rows) (node_of i q) (node_of j x) k b) (some_same r' r (sym at_j ∙ at_r))

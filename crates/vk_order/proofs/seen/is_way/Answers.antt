@@ -40,9 +40,9 @@ returns-then-is_available_before c = λ in_time until kept.
     let are : AreFirsts rows (is_marked all (makes_write_available write)) c.as_slice-list.result.now = subst (λ (l : List First). AreFirsts rows (is_marked all (makes_write_available write)) l) (sym c.as_slice-list.ensures.value) (c.in_ok-firsts.ensures.firsts known) in
     let served : serves in_time (is_host (act_of write.row.act)) c.args.read.now (node_of k row) ≡ true =
     ap (λ (t : Bool). serves in_time t c.args.read.now (node_of k row)) (sym c.is_host-by_host.ensures) ∙ sym (c.is_served_by-is_served.ensures in_time until kept at) ∙ c.if-is_served.true in
-    let sent : is_after all (makes_write_available write) (node_of k row) ≡ true = sym (c.is_available_before.ensures has are kept at) ∙ c.if-is_available_before.true in
+    let available : is_after all (makes_write_available write) (node_of k row) ≡ true = sym (c.is_available_before.ensures has are kept at) ∙ c.if-is_available_before.true in
     sym (member_passes (λ n. serves in_time (is_host (act_of write.row.act)) c.args.read.now n && is_after all (makes_write_available write) n) all (node_of k row) (node_there rows k row at)
-    (and_from (serves in_time (is_host (act_of write.row.act)) c.args.read.now (node_of k row)) (is_after all (makes_write_available write) (node_of k row)) served sent))
+    (and_from (serves in_time (is_host (act_of write.row.act)) c.args.read.now (node_of k row)) (is_after all (makes_write_available write) (node_of k row)) served available))
 
 pub loop-number-preserved : goal.loop-number-preserved
 loop-number-preserved c = λ in_time until kept.

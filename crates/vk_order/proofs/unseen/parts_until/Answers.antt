@@ -7,9 +7,7 @@ use Rattle.vk_order.specs.declared.parts.Part.{Part}
 use Rattle.vk_order.specs.Units.{unit_byte}
 use Rattle.vk_order.proofs.UnitLemmas.{have_fewer}
 use Rattle.vk_order.proofs.unseen.parts_until.Goals as goal
-
-inside : (a b : Part) → Some a ≡ Some b → a ≡ b
-inside a b e = cc
+use Rattle.vk_model.proofs.Lists.Items.{some_same}
 
 pub element_until-until-requires : goal.element_until-until-requires
 element_until-until-requires c = record { order = c.loop-part.invariant.0; numbers = have_fewer c.args.units c.loop-part.until c.args.end c.loop-part.invariant.1 c.requires.numbers }
@@ -26,7 +24,7 @@ loop-part-preserved c =
           let xs = c.args.parts.now in
           let at = c.loop-part.part-index in
           let here : slice_get xs at ≡ Some c.part-item.result = slice_get_read xs (length xs) at c.part-item.result refl c.loop-part-test.true c.part-item.is in
-          let same : x ≡ c.part-item.result = inside x c.part-item.result (sym there ∙ ap (slice_get xs) (let e : i ≡ at = omega arith in e) ∙ here) in
+          let same : x ≡ c.part-item.result = some_same x c.part-item.result (sym there ∙ ap (slice_get xs) (let e : i ≡ at = omega arith in e) ∙ here) in
           subst (λ (y : Part). covers y.element (unit_byte c.args.units k) ≡ covers y.element (unit_byte c.args.units c.args.at)) (sym same) (c.element_until-until.ensures.alike k from to))
           (cases_lt i c.loop-part.part-index),
     )

@@ -1,8 +1,7 @@
 use Rattle.std.proofs.Common.{◌≡◌, ◌<◌, ◌≤◌, ◌∙◌, ◌⊎◌, inl, inr, ap, sym, ℕ, Some, slice_get, arith}
 use Rattle.std.proofs.Math.Nat.{eq-or-lt_of_le}
-use Rattle.std.proofs.lemmas.Option.{slice_get-get_or}
+use Rattle.std.proofs.lemmas.Option.{slice_get-get_or, slice_get_within}
 use Rattle.vk_queues.specs.declared.lines.Line.{Line}
-use Rattle.vk_queues.proofs.Lists.{get_below}
 use Rattle.vk_queues.proofs.choosing.find_line.Goals as goal
 
 pub returns-then-line-queue : goal.returns-then-line-queue
@@ -18,4 +17,4 @@ loop-k-preserved c = λ j line lt at same. go j line at same (eq-or-lt_of_le (le
   go j line at same (inr early) = c.loop-k.invariant j line early at same
 
 pub returns : goal.returns
-returns c = λ k l at. c.loop-k.invariant k l (let lt = get_below c.args.lines.now k l at in let end = c.loop-k-test.false in omega arith) at
+returns c = λ k l at. c.loop-k.invariant k l (let lt = slice_get_within c.args.lines.now k l at in let end = c.loop-k-test.false in omega arith) at

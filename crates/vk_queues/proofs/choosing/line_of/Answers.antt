@@ -1,9 +1,9 @@
 use Rattle.std.proofs.Common.{◌≡◌, ◌∙◌, sym, ap, subst, List, ◌++◌, ◌∷◌, [], Some, slice_get, map, length}
 use Rattle.vk_queues.specs.declared.lines.Line.{Line}
 use Rattle.vk_queues.specs.Inner.Lined.{queued, IsLined, AreAllMet, HasLine}
-use Rattle.vk_queues.proofs.Lists.{push_new}
 use Rattle.vk_queues.proofs.Lining.{lined_line, met_push}
 use Rattle.vk_queues.proofs.choosing.line_of.Goals as goal
+use Rattle.vk_model.proofs.Lists.Items.{push_new}
 
 pub returns-in-Some-clause-here : goal.returns-in-Some-clause-here
 returns-in-Some-clause-here c = subst (λ (l : List Line). HasLine c.args.queue c.in-Some.k l) c.as_slice.ensures.value c.in-Some.ensures

@@ -3,12 +3,12 @@ use Rattle.vk_model.specs.Memory.Pools.{empty_pool}
 use Rattle.vma_pools.specs.State.{PoolsState, ArePools, Backs, allocation_at}
 use Rattle.vk_backing.specs.Backed.{Backed, number_in, pool_of, info_by, LiesIn, IsBacked, IsWhole}
 use Rattle.vk_backing.specs.Allotted.{allotted, Fulfils}
-use Rattle.vk_backing.proofs.Grown.{other_id}
 use Rattle.vk_backing.proofs.Pooling.{pool_unnamed, pool_named, pool_allotted}
 use Rattle.vk_backing.specs.Steps.{MakesPool}
 use Rattle.vk_backing.proofs.Keeping.{more_keeps}
 use Rattle.vk_backing.proofs.Infos.{more_info, more_infos}
 use Rattle.vk_backing.proofs.backing.Backing.pool.Goals as goal
+use Rattle.vk_model.proofs.Lists.Keys.{other_key}
 
 pub returns-in_err-insert-clause-backed : goal.returns-in_err-insert-clause-backed
 returns-in_err-insert-clause-backed c =
@@ -31,7 +31,7 @@ returns-clause-backed c =
     let state = c.in_ok-number.ensures.ok.1 in
     subst (λ (s : PoolsState). IsBacked (record b { pools = s; numbers = c.insert.new.self.entries }) m) (sym state)
     (pool_named b m backed c.args.info c.args.id (ap (λ (x : Backed). pool_of x c.args.id) c.self.view_is ∙ c.requires.absent) c.insert.new.self.entries
-    (updates.1 ∙ ap (λ (n : ℕ). Some n) c.in_ok-number.ensures.ok.0) (λ i other. updates.2 i (other_id c.args.id i other)) (subst ArePools state c.are_pools.ensures) (subst (λ (s : PoolsState). Backs s m) state (c.in_ok-number.ensures.backs m backed.backs)))
+    (updates.1 ∙ ap (λ (n : ℕ). Some n) c.in_ok-number.ensures.ok.0) (λ i other. updates.2 i (other_key c.args.id i other)) (subst ArePools state c.are_pools.ensures) (subst (λ (s : PoolsState). Backs s m) state (c.in_ok-number.ensures.backs m backed.backs)))
 
 pub returns-clause-whole : goal.returns-clause-whole
 returns-clause-whole c =
@@ -51,7 +51,7 @@ returns-clause-allots c =
     let state = c.in_ok-number.ensures.ok.1 in
     subst (λ (s : PoolsState). Fulfils (allotted (record b { pools = s; numbers = c.insert.new.self.entries }) m) (record d { pools = d.pools ++ record { id = c.args.id; pool = empty_pool c.args.info; residents = []; moves = [] } ∷ [] })) (sym state)
     (pool_allotted b m backed c.args.info c.args.id (ap (λ (x : Backed). pool_of x c.args.id) c.self.view_is ∙ c.requires.absent) c.insert.new.self.entries
-    (updates.1 ∙ ap (λ (n : ℕ). Some n) c.in_ok-number.ensures.ok.0) (λ i other. updates.2 i (other_id c.args.id i other)) d (subst (λ (x : Backed). Fulfils (allotted x m) d) (sym c.self.view_is) is))
+    (updates.1 ∙ ap (λ (n : ℕ). Some n) c.in_ok-number.ensures.ok.0) (λ i other. updates.2 i (other_key c.args.id i other)) d (subst (λ (x : Backed). Fulfils (allotted x m) d) (sym c.self.view_is) is))
 
 pub returns-clause-makes : goal.returns-clause-makes
 returns-clause-makes c =
@@ -59,12 +59,12 @@ returns-clause-makes c =
     let b : Backed = record { owned = f.owned.entries; pools = f.pools; numbers = f.numbers.entries; allocations = f.allocations.entries } in
     let updates = c.in_ok-insert.ensures.updates in
     let state = c.in_ok-number.ensures.ok.1 in let here = updates.1 ∙ ap (λ (n : ℕ). Some n) c.in_ok-number.ensures.ok.0 in
-    let others : (i : ℕ) → (i ≡ c.args.id → ⊥) → number_in c.insert.new.self.entries i ≡ pool_of b i = λ i other. updates.2 i (other_id c.args.id i other) in
+    let others : (i : ℕ) → (i ≡ c.args.id → ⊥) → number_in c.insert.new.self.entries i ≡ pool_of b i = λ i other. updates.2 i (other_key c.args.id i other) in
     let h : IsBacked b c.requires.backed.0 = subst (λ (x : Backed). IsBacked x c.requires.backed.0) (sym c.self.view_is) c.requires.backed.1 in
     subst (λ (x : Backed). MakesPool x (record b { pools = c.pool.new.self; numbers = c.insert.new.self.entries }) c.args.id c.args.info) c.self.view_is (record {
       pools = state;
       here = updates.1 ∙ ap (λ (n : ℕ). Some n) c.in_ok-number.ensures.ok.0;
-      others = λ i other. updates.2 i (other_id c.args.id i other);
+      others = λ i other. updates.2 i (other_key c.args.id i other);
       owned = refl;
       allocations = refl;
       keeps = λ i q s l. subst (λ (x : PoolsState). LiesIn (record b { pools = x; numbers = c.insert.new.self.entries }) i q s) (sym state) (more_keeps b (Some (record { pool = empty_pool c.args.info; memories = [] })) c.insert.new.self.entries i q s l);

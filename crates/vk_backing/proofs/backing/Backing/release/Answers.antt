@@ -7,12 +7,12 @@ use Rattle.vk_backing.specs.declared.backing.Own.{Own}
 use Rattle.vk_backing.specs.Backed.{Backed, own_in, allocation_of, LiesIn, IsBacked, IsWhole}
 use Rattle.vk_backing.specs.Allotted.{allotted, Fulfils}
 use Rattle.vk_backing.specs.Steps.{Releases, EndsIn}
-use Rattle.vk_backing.proofs.Grown.{other_id}
 use Rattle.vk_backing.proofs.Owned.{object_is, dedicated_is}
 use Rattle.vk_backing.proofs.Without.{nothing_allotted}
 use Rattle.vk_backing.proofs.ReleasedCalls.{shared_released, shared_whole, shared_allotted, shared_keeps, shared_infos}
 use Rattle.vk_backing.proofs.Disowning.{memory_released, memory_releases, memory_allotted, dedicated_released, dedicated_releases, dedicated_whole, dedicated_allotted}
 use Rattle.vk_backing.proofs.backing.Backing.release.Goals as goal
+use Rattle.vk_model.proofs.Lists.Keys.{other_key}
 
 -- ---- a memory object of its own
 
@@ -29,7 +29,7 @@ returns-in_default-allocation-clause-backed c =
     let b : Backed = record { owned = f.owned.entries; pools = f.pools; numbers = f.numbers.entries; allocations = f.allocations.entries } in
     let h : IsBacked b m = subst (λ (x : Backed). IsBacked x m) (sym c.self.view_is) c.requires.backed in
     let updates = c.in-Some.ensures.updates in
-    subst (λ (n : MemoryState). IsBacked (record b { owned = c.remove.new.self.entries }) n) (sym c.free.ensures) (memory_released b m h id c.in-Some.own (sym c.in-Some.ensures.value) c.remove.new.self.entries updates.1 (λ i other. updates.2 i (other_id id i other)) c.in_default-allocation.is)
+    subst (λ (n : MemoryState). IsBacked (record b { owned = c.remove.new.self.entries }) n) (sym c.free.ensures) (memory_released b m h id c.in-Some.own (sym c.in-Some.ensures.value) c.remove.new.self.entries updates.1 (λ i other. updates.2 i (other_key id i other)) c.in_default-allocation.is)
 
 pub returns-in_default-allocation-clause-releases : goal.returns-in_default-allocation-clause-releases
 returns-in_default-allocation-clause-releases c =
@@ -38,7 +38,7 @@ returns-in_default-allocation-clause-releases c =
     let h : IsBacked b m = subst (λ (x : Backed). IsBacked x m) (sym c.self.view_is) c.requires.backed in
     let updates = c.in-Some.ensures.updates in
     subst (λ (x : Backed). Releases x (record b { owned = c.remove.new.self.entries }) m c.free.new.self id (Some c.in-Some.own.object)) c.self.view_is
-    (subst (λ (n : MemoryState). Releases b (record b { owned = c.remove.new.self.entries }) m n id (Some c.in-Some.own.object)) (sym c.free.ensures) (memory_releases b m h id c.in-Some.own (sym c.in-Some.ensures.value) c.remove.new.self.entries updates.1 (λ i other. updates.2 i (other_id id i other)) c.in_default-allocation.is))
+    (subst (λ (n : MemoryState). Releases b (record b { owned = c.remove.new.self.entries }) m n id (Some c.in-Some.own.object)) (sym c.free.ensures) (memory_releases b m h id c.in-Some.own (sym c.in-Some.ensures.value) c.remove.new.self.entries updates.1 (λ i other. updates.2 i (other_key id i other)) c.in_default-allocation.is))
 
 pub returns-in_default-allocation-clause-allots : goal.returns-in_default-allocation-clause-allots
 returns-in_default-allocation-clause-allots c =
@@ -48,7 +48,7 @@ returns-in_default-allocation-clause-allots c =
     let updates = c.in-Some.ensures.updates in
     λ d is.
     subst (λ (n : MemoryState). Fulfils (allotted (record b { owned = c.remove.new.self.entries }) n) (without id d)) (sym c.free.ensures)
-    (memory_allotted b m h id c.in-Some.own (sym c.in-Some.ensures.value) c.remove.new.self.entries updates.1 (λ i other. updates.2 i (other_id id i other)) c.in_default-allocation.is d (subst (λ (x : Backed). Fulfils (allotted x m) d) (sym c.self.view_is) is))
+    (memory_allotted b m h id c.in-Some.own (sym c.in-Some.ensures.value) c.remove.new.self.entries updates.1 (λ i other. updates.2 i (other_key id i other)) c.in_default-allocation.is d (subst (λ (x : Backed). Fulfils (allotted x m) d) (sym c.self.view_is) is))
 
 -- ---- an allocation in one
 
@@ -67,7 +67,7 @@ returns-in-Some-clause-backed c =
     let h : IsBacked b m = subst (λ (x : Backed). IsBacked x m) (sym c.self.view_is) c.requires.backed in
     let updates = c.in-Some.ensures.updates in
     subst (λ (n : MemoryState). IsBacked (record b { owned = c.remove.new.self.entries; pools = c.free-freed.new.self }) n) (sym c.free-freed.ensures.memories)
-    (dedicated_released b m h id c.in-Some.own (sym c.in-Some.ensures.value) c.remove.new.self.entries updates.1 (λ i other. updates.2 i (other_id id i other)) c.in-Some-allocation.dedicated c.in-Some-allocation.is c.free-freed.new.self c.free-freed.result c.free-freed.ensures.ended
+    (dedicated_released b m h id c.in-Some.own (sym c.in-Some.ensures.value) c.remove.new.self.entries updates.1 (λ i other. updates.2 i (other_key id i other)) c.in-Some-allocation.dedicated c.in-Some-allocation.is c.free-freed.new.self c.free-freed.result c.free-freed.ensures.ended
     c.are_pools.ensures (subst (λ (n : MemoryState). Backs c.free-freed.new.self n) c.free-freed.ensures.memories c.free-freed.ensures.kept))
 
 pub returns-in-Some-clause-whole : goal.returns-in-Some-clause-whole
@@ -76,7 +76,7 @@ returns-in-Some-clause-whole c =
     let b : Backed = record { owned = f.owned.entries; pools = f.pools; numbers = f.numbers.entries; allocations = f.allocations.entries } in
     let h : IsBacked b m = subst (λ (x : Backed). IsBacked x m) (sym c.self.view_is) c.requires.backed in
     let updates = c.in-Some.ensures.updates in
-    λ whole. dedicated_whole b m h id c.in-Some.own (sym c.in-Some.ensures.value) c.remove.new.self.entries updates.1 (λ i other. updates.2 i (other_id id i other)) c.in-Some-allocation.dedicated c.in-Some-allocation.is c.free-freed.new.self c.free-freed.result c.free-freed.ensures.ended (subst IsWhole (sym c.self.view_is) whole)
+    λ whole. dedicated_whole b m h id c.in-Some.own (sym c.in-Some.ensures.value) c.remove.new.self.entries updates.1 (λ i other. updates.2 i (other_key id i other)) c.in-Some-allocation.dedicated c.in-Some-allocation.is c.free-freed.new.self c.free-freed.result c.free-freed.ensures.ended (subst IsWhole (sym c.self.view_is) whole)
 
 pub returns-in-Some-clause-releases : goal.returns-in-Some-clause-releases
 returns-in-Some-clause-releases c =
@@ -85,7 +85,7 @@ returns-in-Some-clause-releases c =
     let h : IsBacked b m = subst (λ (x : Backed). IsBacked x m) (sym c.self.view_is) c.requires.backed in
     let updates = c.in-Some.ensures.updates in
     subst (λ (x : Backed). Releases x (record b { owned = c.remove.new.self.entries; pools = c.free-freed.new.self }) m c.free-freed.new.memories id c.free-freed.result) c.self.view_is
-    (subst (λ (n : MemoryState). Releases b (record b { owned = c.remove.new.self.entries; pools = c.free-freed.new.self }) m n id c.free-freed.result) (sym c.free-freed.ensures.memories) (dedicated_releases b m h id c.in-Some.own (sym c.in-Some.ensures.value) c.remove.new.self.entries updates.1 (λ i other. updates.2 i (other_id id i other)) c.in-Some-allocation.dedicated c.in-Some-allocation.is c.free-freed.new.self c.free-freed.result c.free-freed.ensures.ended))
+    (subst (λ (n : MemoryState). Releases b (record b { owned = c.remove.new.self.entries; pools = c.free-freed.new.self }) m n id c.free-freed.result) (sym c.free-freed.ensures.memories) (dedicated_releases b m h id c.in-Some.own (sym c.in-Some.ensures.value) c.remove.new.self.entries updates.1 (λ i other. updates.2 i (other_key id i other)) c.in-Some-allocation.dedicated c.in-Some-allocation.is c.free-freed.new.self c.free-freed.result c.free-freed.ensures.ended))
 
 pub returns-in-Some-clause-allots : goal.returns-in-Some-clause-allots
 returns-in-Some-clause-allots c =
@@ -95,7 +95,7 @@ returns-in-Some-clause-allots c =
     let updates = c.in-Some.ensures.updates in
     λ d is.
     subst (λ (n : MemoryState). Fulfils (allotted (record b { owned = c.remove.new.self.entries; pools = c.free-freed.new.self }) n) (without id d)) (sym c.free-freed.ensures.memories)
-    (dedicated_allotted b m h id c.in-Some.own (sym c.in-Some.ensures.value) c.remove.new.self.entries updates.1 (λ i other. updates.2 i (other_id id i other)) c.in-Some-allocation.dedicated c.in-Some-allocation.is c.free-freed.new.self c.free-freed.result c.free-freed.ensures.ended d (subst (λ (x : Backed). Fulfils (allotted x m) d) (sym c.self.view_is) is))
+    (dedicated_allotted b m h id c.in-Some.own (sym c.in-Some.ensures.value) c.remove.new.self.entries updates.1 (λ i other. updates.2 i (other_key id i other)) c.in-Some-allocation.dedicated c.in-Some-allocation.is c.free-freed.new.self c.free-freed.result c.free-freed.ensures.ended d (subst (λ (x : Backed). Fulfils (allotted x m) d) (sym c.self.view_is) is))
 
 -- ---- an allocation in a pool, or nothing
 
@@ -125,7 +125,7 @@ returns-clause-backed c =
     let updates = c.in_ok-allocation.ensures.updates in
     subst (λ (o : List (ℕ × Own)). IsBacked (record b { owned = o; pools = c.free-gone.new.self; allocations = c.remove-2.new.self.entries }) c.free-gone.new.memories) (sym c.in_default.ensures.unchanged)
     (subst (λ (n : MemoryState). IsBacked (record b { pools = c.free-gone.new.self; allocations = c.remove-2.new.self.entries }) n) (sym c.free-gone.ensures.memories)
-    (shared_released b m h c.args.id c.in_ok-allocation.allocation (sym c.in_ok-allocation.ensures.value) c.free-gone.new.self c.free-gone.result c.free-gone.ensures.ended c.remove-2.new.self.entries updates.1 (λ i other. updates.2 i (other_id c.args.id i other))
+    (shared_released b m h c.args.id c.in_ok-allocation.allocation (sym c.in_ok-allocation.ensures.value) c.free-gone.new.self c.free-gone.result c.free-gone.ensures.ended c.remove-2.new.self.entries updates.1 (λ i other. updates.2 i (other_key c.args.id i other))
     c.are_pools-2.ensures (subst (λ (n : MemoryState). Backs c.free-gone.new.self n) c.free-gone.ensures.memories c.free-gone.ensures.kept)))
 
 pub returns-clause-whole : goal.returns-clause-whole
@@ -136,7 +136,7 @@ returns-clause-whole c =
     let updates = c.in_ok-allocation.ensures.updates in
     λ whole.
     subst (λ (o : List (ℕ × Own)). IsWhole (record b { owned = o; pools = c.free-gone.new.self; allocations = c.remove-2.new.self.entries })) (sym c.in_default.ensures.unchanged)
-    (shared_whole b m h c.args.id c.in_ok-allocation.allocation (sym c.in_ok-allocation.ensures.value) c.free-gone.new.self c.free-gone.result c.free-gone.ensures.ended c.remove-2.new.self.entries updates.1 (λ i other. updates.2 i (other_id c.args.id i other)) (subst IsWhole (sym c.self.view_is) whole))
+    (shared_whole b m h c.args.id c.in_ok-allocation.allocation (sym c.in_ok-allocation.ensures.value) c.free-gone.new.self c.free-gone.result c.free-gone.ensures.ended c.remove-2.new.self.entries updates.1 (λ i other. updates.2 i (other_key c.args.id i other)) (subst IsWhole (sym c.self.view_is) whole))
 
 pub returns-clause-allots : goal.returns-clause-allots
 returns-clause-allots c =
@@ -147,7 +147,7 @@ returns-clause-allots c =
     λ d is.
     subst (λ (o : List (ℕ × Own)). Fulfils (allotted (record b { owned = o; pools = c.free-gone.new.self; allocations = c.remove-2.new.self.entries }) c.free-gone.new.memories) (without c.args.id d)) (sym c.in_default.ensures.unchanged)
     (subst (λ (n : MemoryState). Fulfils (allotted (record b { pools = c.free-gone.new.self; allocations = c.remove-2.new.self.entries }) n) (without c.args.id d)) (sym c.free-gone.ensures.memories)
-    (shared_allotted b m h c.args.id c.in_ok-allocation.allocation (sym c.in_ok-allocation.ensures.value) c.free-gone.new.self c.free-gone.result c.free-gone.ensures.ended c.remove-2.new.self.entries updates.1 (λ i other. updates.2 i (other_id c.args.id i other)) d (subst (λ (x : Backed). Fulfils (allotted x m) d) (sym c.self.view_is) is)))
+    (shared_allotted b m h c.args.id c.in_ok-allocation.allocation (sym c.in_ok-allocation.ensures.value) c.free-gone.new.self c.free-gone.result c.free-gone.ensures.ended c.remove-2.new.self.entries updates.1 (λ i other. updates.2 i (other_key c.args.id i other)) d (subst (λ (x : Backed). Fulfils (allotted x m) d) (sym c.self.view_is) is)))
 
 pub returns-clause-releases : goal.returns-clause-releases
 returns-clause-releases c =
@@ -155,17 +155,17 @@ returns-clause-releases c =
     let b : Backed = record { owned = f.owned.entries; pools = f.pools; numbers = f.numbers.entries; allocations = f.allocations.entries } in
     let h : IsBacked b m = subst (λ (x : Backed). IsBacked x m) (sym c.self.view_is) c.requires.backed in
     let updates = c.in_ok-allocation.ensures.updates in
-    let after = shared_released b m h c.args.id c.in_ok-allocation.allocation (sym c.in_ok-allocation.ensures.value) c.free-gone.new.self c.free-gone.result c.free-gone.ensures.ended c.remove-2.new.self.entries updates.1 (λ i other. updates.2 i (other_id c.args.id i other)) c.are_pools-2.ensures (subst (λ (n : MemoryState). Backs c.free-gone.new.self n) c.free-gone.ensures.memories c.free-gone.ensures.kept) in
+    let after = shared_released b m h c.args.id c.in_ok-allocation.allocation (sym c.in_ok-allocation.ensures.value) c.free-gone.new.self c.free-gone.result c.free-gone.ensures.ended c.remove-2.new.self.entries updates.1 (λ i other. updates.2 i (other_key c.args.id i other)) c.are_pools-2.ensures (subst (λ (n : MemoryState). Backs c.free-gone.new.self n) c.free-gone.ensures.memories c.free-gone.ensures.kept) in
     subst (λ (x : Backed). Releases x (record b { owned = c.remove.new.self.entries; pools = c.free-gone.new.self; allocations = c.remove-2.new.self.entries }) m c.free-gone.new.memories c.args.id c.free-gone.result) c.self.view_is (record {
       memory = c.free-gone.ensures.memories;
       no_object = object_is c.remove.new.self.entries id None c.in_default.ensures.updates.1;
-      objects = λ i other. object_is c.remove.new.self.entries i (own_in b.owned i) (c.in_default.ensures.updates.2 i (other_id id i other));
+      objects = λ i other. object_is c.remove.new.self.entries i (own_in b.owned i) (c.in_default.ensures.updates.2 i (other_key id i other));
       no_allocation = updates.1;
-      allocations = λ i other. updates.2 i (other_id id i other);
-      mapped = λ i other. dedicated_is c.remove.new.self.entries i (own_in b.owned i) (c.in_default.ensures.updates.2 i (other_id id i other));
+      allocations = λ i other. updates.2 i (other_key id i other);
+      mapped = λ i other. dedicated_is c.remove.new.self.entries i (own_in b.owned i) (c.in_default.ensures.updates.2 i (other_key id i other));
       numbers = refl;
-      keeps = λ i q s other l. subst (λ (o : List (ℕ × Own)). LiesIn (record b { owned = o; pools = c.free-gone.new.self; allocations = c.remove-2.new.self.entries }) i q s) (sym c.in_default.ensures.unchanged) (shared_keeps b m h c.args.id c.in_ok-allocation.allocation (sym c.in_ok-allocation.ensures.value) c.free-gone.new.self c.free-gone.result c.free-gone.ensures.ended c.remove-2.new.self.entries updates.1 (λ i other. updates.2 i (other_id c.args.id i other)) after i q s other l);
-      infos = λ i. shared_infos b m h c.args.id c.in_ok-allocation.allocation (sym c.in_ok-allocation.ensures.value) c.free-gone.new.self c.free-gone.result c.free-gone.ensures.ended c.remove-2.new.self.entries updates.1 (λ i other. updates.2 i (other_id c.args.id i other)) i;
+      keeps = λ i q s other l. subst (λ (o : List (ℕ × Own)). LiesIn (record b { owned = o; pools = c.free-gone.new.self; allocations = c.remove-2.new.self.entries }) i q s) (sym c.in_default.ensures.unchanged) (shared_keeps b m h c.args.id c.in_ok-allocation.allocation (sym c.in_ok-allocation.ensures.value) c.free-gone.new.self c.free-gone.result c.free-gone.ensures.ended c.remove-2.new.self.entries updates.1 (λ i other. updates.2 i (other_key c.args.id i other)) after i q s other l);
+      infos = λ i. shared_infos b m h c.args.id c.in_ok-allocation.allocation (sym c.in_ok-allocation.ensures.value) c.free-gone.new.self c.free-gone.result c.free-gone.ensures.ended c.remove-2.new.self.entries updates.1 (λ i other. updates.2 i (other_key c.args.id i other)) i;
       ends = subst (λ (o : Option Own). EndsIn o (allocation_of b id) b.pools c.free-gone.new.self c.free-gone.result) c.in_default.ensures.value
           (subst (λ (o : Option ℕ). EndsIn None o b.pools c.free-gone.new.self c.free-gone.result) c.in_ok-allocation.ensures.value c.free-gone.ensures.ended);
     })

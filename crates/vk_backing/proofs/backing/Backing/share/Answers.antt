@@ -7,10 +7,10 @@ use Rattle.vma_pools.specs.State.{PoolsState, IfKept, pool_at, request_in}
 use Rattle.vk_backing.specs.Backed.{Backed, object_of, allocation_of, IsBacked, IsWhole}
 use Rattle.vk_backing.specs.Allotted.{allotted, Fulfils}
 use Rattle.vk_backing.specs.Steps.{Shares}
-use Rattle.vk_backing.proofs.Grown.{other_id}
 use Rattle.vk_backing.proofs.SharedCalls.{asks_is, kept-holds, none_shared, unnamed_backed, named_backed, named_whole, named_lies, named_allots, named_size, named_kind, named_aligned, named_keeps, named_infos}
 use Rattle.vk_backing.proofs.Keeping.{atom_aligned}
 use Rattle.vk_backing.proofs.backing.Backing.share.Goals as goal
+use Rattle.vk_model.proofs.Lists.Keys.{other_key}
 
 pub returns-in-Err-NoRoom-clause-allots : goal.returns-in-Err-NoRoom-clause-allots
 returns-in-Err-NoRoom-clause-allots c =
@@ -43,7 +43,7 @@ returns-clause-backed c =
     let asked : Asked = record c.args.asked { align = c.align_in-align.result } in
     let updates = c.in_ok-insert.ensures.updates in
     named_backed b m h c.args.pool p (sym c.get.ensures.value ∙ sym c.in-Some.ensures) asked c.args.upper c.allocate.new.self c.allocate.new.memories c.in-Ok.allocation c.in-Ok.ensures.ok c.args.id (ap (λ (x : Backed). object_of x c.args.id) c.self.view_is ∙ c.requires.apart)
-    c.are_pools.ensures (c.in-Ok.ensures.backs h.backs) (ap (λ (x : Backed). allocation_of x c.args.id) c.self.view_is ∙ c.requires.absent) c.insert.new.self.entries updates.1 (λ i other. updates.2 i (other_id c.args.id i other))
+    c.are_pools.ensures (c.in-Ok.ensures.backs h.backs) (ap (λ (x : Backed). allocation_of x c.args.id) c.self.view_is ∙ c.requires.absent) c.insert.new.self.entries updates.1 (λ i other. updates.2 i (other_key c.args.id i other))
 
 pub returns-clause-whole : goal.returns-clause-whole
 returns-clause-whole c =
@@ -54,7 +54,7 @@ returns-clause-whole c =
     let updates = c.in_ok-insert.ensures.updates in
     λ whole.
     named_whole b m h c.args.pool p (sym c.get.ensures.value ∙ sym c.in-Some.ensures) asked c.args.upper c.allocate.new.self c.allocate.new.memories c.in-Ok.allocation c.in-Ok.ensures.ok c.args.id (ap (λ (x : Backed). object_of x c.args.id) c.self.view_is ∙ c.requires.apart)
-    c.are_pools.ensures (c.in-Ok.ensures.backs h.backs) (ap (λ (x : Backed). allocation_of x c.args.id) c.self.view_is ∙ c.requires.absent) c.insert.new.self.entries updates.1 (λ i other. updates.2 i (other_id c.args.id i other))
+    c.are_pools.ensures (c.in-Ok.ensures.backs h.backs) (ap (λ (x : Backed). allocation_of x c.args.id) c.self.view_is ∙ c.requires.absent) c.insert.new.self.entries updates.1 (λ i other. updates.2 i (other_key c.args.id i other))
     (subst IsWhole (sym c.self.view_is) whole)
 
 pub returns-clause-shares : goal.returns-clause-shares
@@ -68,7 +68,7 @@ returns-clause-shares c =
     let align = subst (λ (x : Backed). IfKept x.pools p (λ k. c.align_in-align.result ≡ (if k.pool.info.memory_type == 2 then max 64 c.args.asked.align else c.args.asked.align))) (sym c.self.view_is) c.align_in-align.ensures in
     let on = kept-holds b.pools p (λ k. c.align_in-align.result ≡ (if k.pool.info.memory_type == 2 then max 64 c.args.asked.align else c.args.asked.align)) align sh.was sh.there in
     let lies = named_lies b m h c.args.pool p (sym c.get.ensures.value ∙ sym c.in-Some.ensures) asked c.args.upper c.allocate.new.self c.allocate.new.memories c.in-Ok.allocation sh c.args.id (ap (λ (x : Backed). object_of x c.args.id) c.self.view_is ∙ c.requires.apart)
-    c.are_pools.ensures (c.in-Ok.ensures.backs h.backs) (ap (λ (x : Backed). allocation_of x c.args.id) c.self.view_is ∙ c.requires.absent) c.insert.new.self.entries updates.1 (λ i other. updates.2 i (other_id c.args.id i other)) c.place.result c.place.ensures in
+    c.are_pools.ensures (c.in-Ok.ensures.backs h.backs) (ap (λ (x : Backed). allocation_of x c.args.id) c.self.view_is ∙ c.requires.absent) c.insert.new.self.entries updates.1 (λ i other. updates.2 i (other_key c.args.id i other)) c.place.result c.place.ensures in
     subst (λ (x : Backed). Shares x (record b { pools = c.allocate.new.self; allocations = c.insert.new.self.entries }) m c.allocate.new.memories c.args.id c.args.pool c.args.asked c.args.upper c.place.result) c.self.view_is (record {
       number = p;
       named = sym c.get.ensures.value ∙ sym c.in-Some.ensures;
@@ -76,22 +76,22 @@ returns-clause-shares c =
       there = sh.there;
       allocation = c.in-Ok.allocation;
       here = updates.1;
-      others = λ i other. updates.2 i (other_id c.args.id i other);
+      others = λ i other. updates.2 i (other_key c.args.id i other);
       owned = refl;
       numbers = refl;
       shared = subst (λ (n : ℕ). pools.IsShared b.pools c.allocate.new.self m c.allocate.new.memories p (record c.args.asked { align = n }) c.args.upper c.in-Ok.allocation) on sh;
       lies = lies;
       size = named_size b m h c.args.pool p (sym c.get.ensures.value ∙ sym c.in-Some.ensures) asked c.args.upper c.allocate.new.self c.allocate.new.memories c.in-Ok.allocation sh c.args.id (ap (λ (x : Backed). object_of x c.args.id) c.self.view_is ∙ c.requires.apart)
-          c.are_pools.ensures (c.in-Ok.ensures.backs h.backs) (ap (λ (x : Backed). allocation_of x c.args.id) c.self.view_is ∙ c.requires.absent) c.insert.new.self.entries updates.1 (λ i other. updates.2 i (other_id c.args.id i other)) c.place.result c.place.ensures;
+          c.are_pools.ensures (c.in-Ok.ensures.backs h.backs) (ap (λ (x : Backed). allocation_of x c.args.id) c.self.view_is ∙ c.requires.absent) c.insert.new.self.entries updates.1 (λ i other. updates.2 i (other_key c.args.id i other)) c.place.result c.place.ensures;
       kind = named_kind b m h c.args.pool p (sym c.get.ensures.value ∙ sym c.in-Some.ensures) asked c.args.upper c.allocate.new.self c.allocate.new.memories c.in-Ok.allocation sh c.args.id (ap (λ (x : Backed). object_of x c.args.id) c.self.view_is ∙ c.requires.apart)
-          c.are_pools.ensures (c.in-Ok.ensures.backs h.backs) (ap (λ (x : Backed). allocation_of x c.args.id) c.self.view_is ∙ c.requires.absent) c.insert.new.self.entries updates.1 (λ i other. updates.2 i (other_id c.args.id i other)) c.place.result lies;
+          c.are_pools.ensures (c.in-Ok.ensures.backs h.backs) (ap (λ (x : Backed). allocation_of x c.args.id) c.self.view_is ∙ c.requires.absent) c.insert.new.self.entries updates.1 (λ i other. updates.2 i (other_key c.args.id i other)) c.place.result lies;
       aligned = λ cached. atom_aligned c.place.result.offset c.args.asked.align c.args.asked.size c.requires.request
           (subst (λ (n : ℕ). c.place.result.offset % n ≡ 0) (on ∙ ap (λ (t : ℕ). if t == 2 then max 64 c.args.asked.align else c.args.asked.align) cached) (named_aligned b m h c.args.pool p (sym c.get.ensures.value ∙ sym c.in-Some.ensures) asked c.args.upper c.allocate.new.self c.allocate.new.memories c.in-Ok.allocation sh c.args.id (ap (λ (x : Backed). object_of x c.args.id) c.self.view_is ∙ c.requires.apart)
-          c.are_pools.ensures (c.in-Ok.ensures.backs h.backs) (ap (λ (x : Backed). allocation_of x c.args.id) c.self.view_is ∙ c.requires.absent) c.insert.new.self.entries updates.1 (λ i other. updates.2 i (other_id c.args.id i other)) c.place.result c.place.ensures));
+          c.are_pools.ensures (c.in-Ok.ensures.backs h.backs) (ap (λ (x : Backed). allocation_of x c.args.id) c.self.view_is ∙ c.requires.absent) c.insert.new.self.entries updates.1 (λ i other. updates.2 i (other_key c.args.id i other)) c.place.result c.place.ensures));
       keeps = named_keeps b m h c.args.pool p (sym c.get.ensures.value ∙ sym c.in-Some.ensures) asked c.args.upper c.allocate.new.self c.allocate.new.memories c.in-Ok.allocation sh c.args.id (ap (λ (x : Backed). object_of x c.args.id) c.self.view_is ∙ c.requires.apart)
-          c.are_pools.ensures (c.in-Ok.ensures.backs h.backs) (ap (λ (x : Backed). allocation_of x c.args.id) c.self.view_is ∙ c.requires.absent) c.insert.new.self.entries updates.1 (λ i other. updates.2 i (other_id c.args.id i other));
+          c.are_pools.ensures (c.in-Ok.ensures.backs h.backs) (ap (λ (x : Backed). allocation_of x c.args.id) c.self.view_is ∙ c.requires.absent) c.insert.new.self.entries updates.1 (λ i other. updates.2 i (other_key c.args.id i other));
       infos = named_infos b m h c.args.pool p (sym c.get.ensures.value ∙ sym c.in-Some.ensures) asked c.args.upper c.allocate.new.self c.allocate.new.memories c.in-Ok.allocation sh c.args.id (ap (λ (x : Backed). object_of x c.args.id) c.self.view_is ∙ c.requires.apart)
-          c.are_pools.ensures (c.in-Ok.ensures.backs h.backs) (ap (λ (x : Backed). allocation_of x c.args.id) c.self.view_is ∙ c.requires.absent) c.insert.new.self.entries updates.1 (λ i other. updates.2 i (other_id c.args.id i other));
+          c.are_pools.ensures (c.in-Ok.ensures.backs h.backs) (ap (λ (x : Backed). allocation_of x c.args.id) c.self.view_is ∙ c.requires.absent) c.insert.new.self.entries updates.1 (λ i other. updates.2 i (other_key c.args.id i other));
     })
 
 pub returns-clause-allots : goal.returns-clause-allots
@@ -106,5 +106,5 @@ returns-clause-allots c =
     let on = kept-holds b.pools p (λ k. c.align_in-align.result ≡ (if k.pool.info.memory_type == 2 then max 64 c.args.asked.align else c.args.asked.align)) align sh.was sh.there in
     λ r asks d is.
     named_allots b m h c.args.pool p (sym c.get.ensures.value ∙ sym c.in-Some.ensures) asked c.args.upper c.allocate.new.self c.allocate.new.memories c.in-Ok.allocation sh c.args.id (ap (λ (x : Backed). object_of x c.args.id) c.self.view_is ∙ c.requires.apart)
-    c.are_pools.ensures (c.in-Ok.ensures.backs h.backs) (ap (λ (x : Backed). allocation_of x c.args.id) c.self.view_is ∙ c.requires.absent) c.insert.new.self.entries updates.1 (λ i other. updates.2 i (other_id c.args.id i other))
+    c.are_pools.ensures (c.in-Ok.ensures.backs h.backs) (ap (λ (x : Backed). allocation_of x c.args.id) c.self.view_is ∙ c.requires.absent) c.insert.new.self.entries updates.1 (λ i other. updates.2 i (other_key c.args.id i other))
     r (asks_is r c.args.asked sh.was.pool.info.memory_type c.align_in-align.result asks on) (c.in-Ok.ensures.room refl) d (subst (λ (x : Backed). Fulfils (allotted x m) d) (sym c.self.view_is) is)

@@ -2,8 +2,9 @@ use Rattle.std.proofs.Common.{◌≡◌, ◌<◌, length, sym, ap, ◌∙◌, fa
 use Rattle.std.proofs.lemmas.Bool.{lt-ltb}
 use Rattle.std.proofs.lemmas.Option.{slice_get-get_or}
 use Rattle.vk_model.specs.Sync.Node.{Runs}
-use Rattle.vk_offers.proofs.Steps.{get_mapped, piece_low, piece_of}
+use Rattle.vk_offers.proofs.Steps.{piece_low, piece_of}
 use Rattle.vk_offers.proofs.offers.Offers.command.Goals as goal
+use Rattle.vk_model.proofs.Lists.Items.{get_mapped}
 
 pub unreachable-requires : goal.unreachable-requires
 unreachable-requires c =

@@ -3,8 +3,8 @@ use Rattle.std.specs.Prelude.{slice_get}
 use Rattle.vk_sync.specs.Ready.{ready}
 use Rattle.vk_offers.specs.IsOffers.{name_of}
 use Rattle.vk_offers.proofs.Offering.{same_offers}
-use Rattle.vk_offers.proofs.Steps.{get_mapped}
 use Rattle.vk_offers.proofs.offers.Offers.nth.Goals as goal
+use Rattle.vk_model.proofs.Lists.Items.{get_mapped}
 
 pub returns-clause-named : goal.returns-clause-named
 returns-clause-named c = λ past done is.

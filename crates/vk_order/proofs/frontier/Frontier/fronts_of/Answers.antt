@@ -9,8 +9,8 @@ use Rattle.vk_order.specs.Inner.Leads.{line_leads}
 use Rattle.vk_order.specs.Inner.Links.{by_name}
 use Rattle.vk_order.specs.Inner.Fronts.{IsFront}
 use Rattle.vk_order.specs.Inner.Tallies.{lines_of}
-use Rattle.vk_order.proofs.KeptLemmas.{push_cases}
 use Rattle.vk_order.proofs.frontier.Frontier.fronts_of.Goals as goal
+use Rattle.vk_model.proofs.Lists.Items.{push_cases}
 
 same_row : (q r : Row) → Some q ≡ Some r → q ≡ r
 same_row q r e = cc

@@ -14,9 +14,7 @@ use Rattle.vk_order.specs.Inner.Parts.{IsPart}
 use Rattle.vk_order.specs.Inner.Tallies.{lines_of}
 use Rattle.vk_order.proofs.ServeLemmas.{available_covers}
 use Rattle.vk_order.proofs.frontier.Frontier.is_marked.Goals as goal
-
-inside : (a b : Part) → Some a ≡ Some b → a ≡ b
-inside a b e = cc
+use Rattle.vk_model.proofs.Lists.Items.{some_same}
 
 pub returns-then-is_mark : goal.returns-then-is_mark
 returns-then-is_mark c = λ ns n w cached from is new_node any parts le hw on at.
@@ -37,7 +35,7 @@ loop-part-preserved c = λ ns n w m cached from is new_node any parts le hw on a
     let k = c.loop-part.part-index in
     let here : slice_get xs k ≡ Some c.part-item.result = slice_get_read xs (length xs) k c.part-item.result refl c.loop-part-test.true c.part-item.is in
     let at_k : k ≡ i = omega arith in
-    let same : x ≡ c.part-item.result = inside x c.part-item.result (sym e ∙ ap (slice_get xs) (sym at_k) ∙ here) in
+    let same : x ≡ c.part-item.result = some_same x c.part-item.result (sym e ∙ ap (slice_get xs) (sym at_k) ∙ here) in
     clash ((c.is_mark.ensures ns n w m cached from is new_node any parts le hw on at (subst (λ (y : Part). IsPart ns (lines_of c.args.self.now.tallies.items) m y) same part)).1 both) c.if-is_mark.false)
     (cases_lt i c.loop-part.part-index)
 

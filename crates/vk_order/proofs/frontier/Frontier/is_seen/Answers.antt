@@ -1,22 +1,17 @@
-use Rattle.std.proofs.Common.{◌≡◌, ◌&&◌, ◌∷◌, inl, inr, ℕ, List, IsTrue, true, refl, ap, sym, ◌∙◌, subst}
+use Rattle.std.proofs.Common.{◌≡◌, ◌&&◌, ◌∷◌, inl, inr, IsTrue, true, refl, sym, ◌∙◌, subst}
 use Rattle.std.proofs.lemmas.Bool.{and_parts, and_from}
 use Rattle.vk_model.specs.Sync.Node.{Node}
 use Rattle.vk_model.specs.Sync.Edge.{edge, is_command}
 use Rattle.vk_model.specs.Sync.Seen.{seen, makes_writes_available}
 use Rattle.vk_model.proofs.Lists.Truths.{bool_same, clash}
 use Rattle.vk_model.specs.World.Bytes.{resource_at}
-use Rattle.vk_order.specs.declared.parts.Part.{Part}
-use Rattle.vk_order.specs.Inner.Parts.{AreInOrder, AreFrom}
 use Rattle.vk_order.specs.Bytes.{byte_of}
 use Rattle.vk_order.specs.Wide.{access_of}
 use Rattle.vk_order.specs.Limited.{IsMark}
 use Rattle.vk_order.specs.Inner.Parts.{Serves}
 use Rattle.vk_order.proofs.ServeLemmas.{seen_served, answered_any}
 use Rattle.vk_order.proofs.frontier.Frontier.is_seen.Goals as goal
-
--- the parts that are searched, of those that are kept
-from_slice : {from : ℕ} {all some kept : List Part} → all ≡ kept → AreInOrder kept → (AreInOrder all → AreFrom from all some) → AreFrom from kept some
-from_slice {from} {all} {some} {kept} e ordered is = subst (λ (l : List Part). AreFrom from l some) e (is (subst (λ (l : List Part). AreInOrder l) (sym e) ordered))
+use Rattle.vk_order.proofs.PartLemmas.{from_slice}
 
 pub returns-then-is_served : goal.returns-then-is_served
 returns-then-is_served c = λ ns n w cached is new_node write on at le asked.

@@ -1,4 +1,4 @@
-use Rattle.std.proofs.Common.{ℕ, ◌≡◌, ◌∷◌, ◌&&◌, inl, inr, ⊎_elim, List, Bool, IsTrue, true, refl, sym, ◌∙◌, subst}
+use Rattle.std.proofs.Common.{◌≡◌, ◌∷◌, ◌&&◌, inl, inr, ⊎_elim, List, Bool, IsTrue, true, refl, sym, ◌∙◌, subst}
 use Rattle.std.specs.Prelude.{Contains}
 use Rattle.std.proofs.lemmas.Bool.{and_parts, and_from}
 use Rattle.vk_model.specs.World.Bytes.{Byte}
@@ -9,8 +9,6 @@ use Rattle.vk_model.specs.Sync.Seen.{seen, makes_writes_available}
 use Rattle.vk_model.proofs.Lists.Members.{contains-head, contains-tail, contains-cons}
 use Rattle.vk_model.proofs.Lists.Truths.{bool_same, clash}
 use Rattle.vk_model.specs.World.Bytes.{resource_at}
-use Rattle.vk_order.specs.declared.parts.Part.{Part}
-use Rattle.vk_order.specs.Inner.Parts.{AreInOrder, AreFrom}
 use Rattle.vk_order.specs.Bytes.{byte_of}
 use Rattle.vk_order.specs.Limited.{IsMark, Reaches}
 use Rattle.vk_order.specs.Inner.Tallies.{lines_of}
@@ -18,10 +16,7 @@ use Rattle.vk_order.proofs.LimitedLemmas.{seen_by_transition}
 use Rattle.vk_order.proofs.KnownRows.{at_old, old_edge}
 use Rattle.vk_order.proofs.ServeLemmas.{part_reached}
 use Rattle.vk_order.proofs.frontier.Frontier.is_seen_at.Goals as goal
-
--- the parts that are searched, of those that are kept
-from_slice : {from : ℕ} {all some kept : List Part} → all ≡ kept → AreInOrder kept → (AreInOrder all → AreFrom from all some) → AreFrom from kept some
-from_slice {from} {all} {some} {kept} e ordered is = subst (λ (l : List Part). AreFrom from l some) e (is (subst (λ (l : List Part). AreInOrder l) (sym e) ordered))
+use Rattle.vk_order.proofs.PartLemmas.{from_slice}
 
 pub returns-then-reaches : goal.returns-then-reaches
 returns-then-reaches c = λ ns n w cached k numbers is part write on at le.

@@ -12,9 +12,7 @@ use Rattle.vk_order.specs.Inner.Parts.{IsPart}
 use Rattle.vk_order.specs.Inner.Tallies.{lines_of}
 use Rattle.vk_order.proofs.ServeLemmas.{open_covers, reach_later}
 use Rattle.vk_order.proofs.frontier.Frontier.is_served.Goals as goal
-
-inside : (a b : Part) → Some a ≡ Some b → a ≡ b
-inside a b e = cc
+use Rattle.vk_model.proofs.Lists.Items.{some_same}
 
 pub returns-then-gives : goal.returns-then-gives
 returns-then-gives c = λ ns n m cached from is new_node any parts le hm on at.
@@ -35,7 +33,7 @@ loop-part-preserved c = λ ns n m q cached new_node any hm on at i x lt e part b
     let k = c.loop-part.part-index in
     let here : slice_get xs k ≡ Some c.part-item.result = slice_get_read xs (length xs) k c.part-item.result refl c.loop-part-test.true c.part-item.is in
     let at_k : k ≡ i = omega arith in
-    let same : x ≡ c.part-item.result = inside x c.part-item.result (sym e ∙ ap (slice_get xs) (sym at_k) ∙ here) in
+    let same : x ≡ c.part-item.result = some_same x c.part-item.result (sym e ∙ ap (slice_get xs) (sym at_k) ∙ here) in
     clash ((c.gives.ensures ns n m q cached new_node any (subst (λ (y : Part). IsPart ns (lines_of c.args.self.now.tallies.items) q y) same part) hm on at).1 both) c.if-gives.false)
     (cases_lt i c.loop-part.part-index)
 

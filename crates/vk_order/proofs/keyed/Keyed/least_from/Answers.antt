@@ -8,12 +8,8 @@ use Rattle.std.specs.declared.ops.Bound.TheVariants.{Included, Unbounded}
 use Rattle.vk_order.specs.declared.fronts.Front.{Front}
 use Rattle.vk_order.specs.Inner.Keyed.{front_at}
 use Rattle.vk_order.proofs.keyed.Keyed.least_from.Goals as goal
-
-up : (a b : ℕ) → is_gt (nat_cmp a b) ≡ false → a ≤ b
-up a b e = grind arith
-
-down : (a b : ℕ) → a ≤ b → is_gt (nat_cmp a b) ≡ false
-down a b le = grind arith
+use Rattle.std.proofs.lemmas.Map.Keys.{le_from_not_gt}
+use Rattle.vk_model.proofs.Lists.Keys.{not_above}
 
 by_some : (o : Option Front) (g : Front) → o ≡ Some g → IsSome o
 by_some o g e = search (rules, e)
@@ -23,14 +19,14 @@ first : (m : BTreeMap ℕ Front) (v u : ℕ) (f : Front) (rest r : List (ℕ × 
 first m v u f rest r is range =
     let here : slice_get r 0 ≡ Some (u, f) = ap (λ (l : List (ℕ × Front)). slice_get l 0) is in
     let least = subst (λ (o : Option (ℕ × Front)). IfSome o (λ e. ((is_gt (nat_cmp v e.0) ≡ false) × Unit {0}) × (get nat_cmp m e.0 ≡ Some e.1))) here range.1 in
-    (up v u least.0.0, least.1, (λ w low lt. go w low lt (get nat_cmp m w) refl))
+    (le_from_not_gt v u least.0.0, least.1, (λ w low lt. go w low lt (get nat_cmp m w) refl))
   where
     go : (w : ℕ) → v ≤ w → w < u → (o : Option Front) → get nat_cmp m w ≡ o → get nat_cmp m w ≡ None
     go w low lt None e = e
     go w low lt (Some g) e =
         let here : slice_get r 0 ≡ Some (u, f) = ap (λ (l : List (ℕ × Front)). slice_get l 0) is in
-        let le = subst (λ (o : Option (ℕ × Front)). IfSome o (λ e. is_gt (nat_cmp e.0 w) ≡ false)) here (range.2 w (down v w low, tt) (by_some (get nat_cmp m w) g e)) in
-        absurd (let bad = up u w le in omega arith)
+        let le = subst (λ (o : Option (ℕ × Front)). IfSome o (λ e. is_gt (nat_cmp e.0 w) ≡ false)) here (range.2 w (not_above v w low, tt) (by_some (get nat_cmp m w) g e)) in
+        absurd (let bad = le_from_not_gt u w le in omega arith)
 
 pub returns-in-Some : goal.returns-in-Some
 returns-in-Some c =

@@ -6,11 +6,11 @@ use Rattle.vk_order.specs.declared.point.Act.{Act}
 use Rattle.vk_order.specs.declared.point.Act.TheVariants as act
 use Rattle.vk_order.specs.PointViews.{act_of}
 use Rattle.vk_order.specs.Inner.Names.{is_awaited_for}
-use Rattle.vk_order.proofs.Arrange.{or-false}
 use Rattle.vk_order.proofs.FrontLemmas.{front_same}
 use Rattle.vk_order.proofs.WaitLemmas.{one_wait, no_wait}
 use Rattle.vk_order.proofs.names.Names.join_signals.Goals as goal
 use denote.Ref.{Bor}
+use Rattle.std.proofs.Math.Bool.{or-false}
 
 no_waits : (a : Act) → ((x : Bor Entry) → a ≡ act.Hosts x → ⊥) → ((x : Bor SemaphoreSubmit) → a ≡ act.Waits x → ⊥) → waited_by (act_of a) ≡ []
 no_waits (act.Hosts x) h w = absurd (h x refl)

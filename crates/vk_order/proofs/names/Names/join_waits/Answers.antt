@@ -4,10 +4,10 @@ use Rattle.vk_model.specs.declared.entry.SemaphoreValue.{SemaphoreValue}
 use Rattle.vk_model.specs.Sync.Edge.{by_semaphore, waited_by}
 use Rattle.vk_model.specs.Sync.Node.{Hosts}
 use Rattle.vk_order.specs.Inner.Names.{is_awaited_for}
-use Rattle.vk_order.proofs.Arrange.{or-false}
 use Rattle.vk_order.proofs.FrontLemmas.{front_same}
 use Rattle.vk_order.proofs.WaitLemmas.{each_wait, no_wait, waits_of_none}
 use Rattle.vk_order.proofs.names.Names.join_waits.Goals as goal
+use Rattle.std.proofs.Math.Bool.{or-false}
 
 pub returns-in_ok-join_each-in-Wait : goal.returns-in_ok-join_each-in-Wait
 returns-in_ok-join_each-in-Wait c = λ ns ls f n act names is.

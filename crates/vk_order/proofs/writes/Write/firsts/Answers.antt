@@ -12,6 +12,7 @@ use Rattle.vk_order.specs.Lines.{line_of}
 use Rattle.vk_order.specs.Inner.Availability.{makes_write_available, is_marked, is_set_element, HasSets}
 use Rattle.vk_order.proofs.writes.Write.firsts.Goals.{in-Some+in_ok-push, in_default}
 use Rattle.vk_order.proofs.writes.Write.firsts.Goals as goal
+use Rattle.vk_model.proofs.Lists.Items.{some_same}
 
 -- one row more
 abbrev Each : List Row → (Node → Bool) → List First → Type 0
@@ -23,15 +24,12 @@ Found firsts j x = (f : First) × Contains firsts f × (line_of (node_of j x) �
 abbrev AllBelow : List Row → (Node → Bool) → List First → ℕ → Type 0
 AllBelow rows test firsts k = (j : ℕ) (x : Row) → slice_get rows j ≡ Some x → j < k → IsTrue (test (node_of j x)) → is_set_element (act_of x.act) ≡ false → Found firsts j x
 
-inside : (x y : Row) → Some x ≡ Some y → x ≡ y
-inside x y h = cc
-
 module _ (rows : List Row) (test : Node → Bool) (firsts : List First) (k : ℕ) (row : Row) (at : slice_get rows k ≡ Some row) where
   more_below : AllBelow rows test firsts k → (IsTrue (test (node_of k row)) → is_set_element (act_of row.act) ≡ false → Found firsts k row) → AllBelow rows test firsts (k + 1)
   more_below below here j x e lt t plain = ⊎_elim
       (λ low. below j x e low t plain)
       (λ high. let same : j ≡ k = omega arith in
-      let is : x ≡ row = inside x row (sym e ∙ ap (slice_get rows) same ∙ at) in
+      let is : x ≡ row = some_same x row (sym e ∙ ap (slice_get rows) same ∙ at) in
       let found = here (subst (λ (y : Row). IsTrue (test (node_of k y))) is (subst (λ (i : ℕ). IsTrue (test (node_of i x))) same t)) (ap (λ (y : Row). is_set_element (act_of y.act)) (sym is) ∙ plain) in
       (found.0, found.1, ap (λ (y : Row). line_of (node_of j y)) is ∙ found.2, let le = found.3 in omega arith))
       (cases_lt j k)
@@ -49,7 +47,7 @@ module _ (rows : List Row) (test : Node → Bool) (firsts : List First) (k : ℕ
     all_more below line j x e lt t plain = ⊎_elim
         (λ low. let found = below j x e low t plain in (found.0, Contains-append_left firsts (own ∷ []) found.0 found.1, found.2, found.3))
         (λ high. let same : j ≡ k = omega arith in
-        let is : x ≡ row = inside x row (sym e ∙ ap (slice_get rows) same ∙ at) in
+        let is : x ≡ row = some_same x row (sym e ∙ ap (slice_get rows) same ∙ at) in
         (own, Contains-append_right firsts (own ∷ []) own (contains-head own []), ap (λ (y : Row). line_of (node_of j y)) is ∙ line, omega arith))
         (cases_lt j k)
 

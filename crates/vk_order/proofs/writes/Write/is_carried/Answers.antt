@@ -9,6 +9,7 @@ use Rattle.vk_order.specs.Edges.{unsignaled}
 use Rattle.vk_order.specs.Inner.Availability.{makes_write_available, is_set_element}
 use Rattle.vk_order.proofs.AvailabilityLemmas.{some_carried, none_carried, not_after_sets}
 use Rattle.vk_order.proofs.writes.Write.is_carried.Goals as goal
+use Rattle.vk_model.proofs.Lists.Items.{some_same}
 
 pub returns-then-not-comes_after_sets : goal.returns-then-not-comes_after_sets
 returns-then-not-comes_after_sets c = λ has.
@@ -44,18 +45,12 @@ loop-set-preserved c = λ i j x lt e at_x. ⊎_elim
     let low : k < length rows = c.requires k (Contains-get_or sets n 0 c.loop-set-test.true) in
     let at : slice_get rows k ≡ Some row = slice_get_read rows (length rows) k row refl low c.index-rows-set.is in
     let same : i ≡ n = omega arith in
-    let is : k ≡ j = inside k j (sym (slice_get-get_or sets n 0 c.loop-set-test.true) ∙ ap (slice_get sets) (sym same) ∙ e) in
-    let one : row ≡ x = one_row row x (sym at ∙ ap (slice_get rows) is ∙ at_x) in
+    let is : k ≡ j = some_same k j (sym (slice_get-get_or sets n 0 c.loop-set-test.true) ∙ ap (slice_get sets) (sym same) ∙ e) in
+    let one : row ≡ x = some_same row x (sym at ∙ ap (slice_get rows) is ∙ at_x) in
     ap (λ (y : Row). is_set_element (act_of y.act) && makes_write_available c.args.self.now (node_of j y) && (nat_lt j c.args.number && unsignaled (node_of j y) (node_of c.args.number c.args.row.now))) (sym one)
     ∙ ap (λ (m : ℕ). is_set_element (act_of row.act) && makes_write_available c.args.self.now (node_of m row) && (nat_lt m c.args.number && unsignaled (node_of m row) (node_of c.args.number c.args.row.now))) (sym is)
     ∙ sym c.is_carried_by.ensures ∙ c.if-is_carried_by.false)
     (cases_lt i c.loop-set.set-index)
-  where
-    inside : (a b : ℕ) → Some a ≡ Some b → a ≡ b
-    inside a b h = cc
-
-    one_row : (x y : Row) → Some x ≡ Some y → x ≡ y
-    one_row x y e = cc
 
 pub returns : goal.returns
 returns c = λ has. sym (none_carried c.args.rows.now (makes_write_available c.args.self.now) c.args.number c.args.row.now c.args.sets.now has

@@ -10,6 +10,7 @@ use Rattle.vk_order.specs.PointViews.{act_of, node_of}
 use Rattle.vk_order.specs.Inner.Availability.{makes_write_available, is_set_element}
 use Rattle.vk_order.proofs.writes.Write.sets.Goals.{then-is_made_available_by_set+in_ok-push, else-is_made_available_by_set}
 use Rattle.vk_order.proofs.writes.Write.sets.Goals as goal
+use Rattle.vk_model.proofs.Lists.Items.{some_same}
 
 pub loop-number-preserved : goal.loop-number-preserved
 loop-number-preserved c =
@@ -36,15 +37,12 @@ loop-number-preserved c =
             all = λ j x e lt t. subst (λ (l : List ℕ). Contains l j) (sym items) (⊎_elim
                 (λ low. c.loop-number.invariant.all j x e low t)
                 (λ high. let same : j ≡ k = omega arith in
-                let is : x ≡ row = one_row x row (sym e ∙ ap (slice_get rows) same ∙ at) in
+                let is : x ≡ row = some_same x row (sym e ∙ ap (slice_get rows) same ∙ at) in
                 clash (ap (λ (i : ℕ). is_set_element (act_of x.act) && makes_write_available c.args.self.now (node_of i x)) (sym same) ∙ t)
                 (ap (λ (y : Row). is_set_element (act_of y.act) && makes_write_available c.args.self.now (node_of k y)) is ∙ sym c.is_made_available_by_set.ensures ∙ w.if-is_made_available_by_set.false))
                 (cases_lt j k));
           }
     ]
-  where
-    one_row : (x y : Row) → Some x ≡ Some y → x ≡ y
-    one_row x y e = cc
 
 pub returns-clause-within : goal.returns-clause-within
 returns-clause-within c = λ s has. let less = c.loop-number.invariant.within s has in let le = c.loop-number.auto.number-end in omega arith

@@ -1,9 +1,9 @@
 use Rattle.std.proofs.Common.{◌≡◌, ap, sym, ◌∙◌, subst, refl}
 use Rattle.vk_resources.specs.Held.{Held}
 use Rattle.vk_resources.specs.Inner.Steps.{IsEmpty, Forgets}
-use Rattle.vk_backing.proofs.Grown.{other_id}
 use Rattle.vk_resources.proofs.CachedSteps.{all_ended, bare_object, all_none}
 use Rattle.vk_resources.proofs.resources.Resources.end.Goals as goal
+use Rattle.vk_model.proofs.Lists.Keys.{other_key}
 
 pub invariant_of-self : goal.invariant_of-self
 invariant_of-self c =
@@ -20,7 +20,7 @@ invariant_of-self c =
     let none = bare_object s n c.args.id memory backed resources shapes c.forget.ensures.consistent c.self.invariant forgets empty c.release.new.self c.release.new.memories c.release.result c.release.ensures.releases c.release.ensures.backed c.in-Some.object c.in-Some.is in
     (all_ended s n c.args.id memory backed resources shapes c.forget.ensures.consistent c.self.invariant forgets empty c.release.new.self c.release.new.memories c.release.result c.release.ensures.releases c.release.ensures.backed
     c.remove.new.self.entries c.remove-2.new.self.entries c.drop_range.new.self (all_none c.in-Some.object 0 9223372036854775808 n.cache c.drop_range.new.self c.drop_range.ensures none)
-    gone.1 (λ b other. gone.2 b (other_id c.args.id b other)) bare.1 (λ b other. bare.2 b (other_id c.args.id b other)) c.release.ensures.whole c.release.ensures.allots).0
+    gone.1 (λ b other. gone.2 b (other_key c.args.id b other)) bare.1 (λ b other. bare.2 b (other_key c.args.id b other)) c.release.ensures.whole c.release.ensures.allots).0
 
 pub returns-in-Some-clause-ended : goal.returns-in-Some-clause-ended
 returns-in-Some-clause-ended c =
@@ -37,7 +37,7 @@ returns-in-Some-clause-ended c =
     let none = bare_object s n c.args.id memory backed resources shapes c.forget.ensures.consistent c.self.invariant forgets empty c.release.new.self c.release.new.memories c.release.result c.release.ensures.releases c.release.ensures.backed c.in-Some.object c.in-Some.is in
     (all_ended s n c.args.id memory backed resources shapes c.forget.ensures.consistent c.self.invariant forgets empty c.release.new.self c.release.new.memories c.release.result c.release.ensures.releases c.release.ensures.backed
     c.remove.new.self.entries c.remove-2.new.self.entries c.drop_range.new.self (all_none c.in-Some.object 0 9223372036854775808 n.cache c.drop_range.new.self c.drop_range.ensures none)
-    gone.1 (λ b other. gone.2 b (other_id c.args.id b other)) bare.1 (λ b other. bare.2 b (other_id c.args.id b other)) c.release.ensures.whole c.release.ensures.allots).1
+    gone.1 (λ b other. gone.2 b (other_key c.args.id b other)) bare.1 (λ b other. bare.2 b (other_key c.args.id b other)) c.release.ensures.whole c.release.ensures.allots).1
 
 pub invariant_of-self-in_default : goal.invariant_of-self-in_default
 invariant_of-self-in_default c =
@@ -53,7 +53,7 @@ invariant_of-self-in_default c =
     let bare = c.remove-2.ensures.updates in
     (all_ended s n c.args.id memory backed resources shapes c.forget.ensures.consistent c.self.invariant forgets empty c.release.new.self c.release.new.memories c.release.result c.release.ensures.releases c.release.ensures.backed
     c.remove.new.self.entries c.remove-2.new.self.entries c.self.inside.cache (λ number k. refl)
-    gone.1 (λ b other. gone.2 b (other_id c.args.id b other)) bare.1 (λ b other. bare.2 b (other_id c.args.id b other)) c.release.ensures.whole c.release.ensures.allots).0
+    gone.1 (λ b other. gone.2 b (other_key c.args.id b other)) bare.1 (λ b other. bare.2 b (other_key c.args.id b other)) c.release.ensures.whole c.release.ensures.allots).0
 
 pub returns-in_default-clause-ended : goal.returns-in_default-clause-ended
 returns-in_default-clause-ended c =
@@ -69,4 +69,4 @@ returns-in_default-clause-ended c =
     let bare = c.remove-2.ensures.updates in
     (all_ended s n c.args.id memory backed resources shapes c.forget.ensures.consistent c.self.invariant forgets empty c.release.new.self c.release.new.memories c.release.result c.release.ensures.releases c.release.ensures.backed
     c.remove.new.self.entries c.remove-2.new.self.entries c.self.inside.cache (λ number k. refl)
-    gone.1 (λ b other. gone.2 b (other_id c.args.id b other)) bare.1 (λ b other. bare.2 b (other_id c.args.id b other)) c.release.ensures.whole c.release.ensures.allots).1
+    gone.1 (λ b other. gone.2 b (other_key c.args.id b other)) bare.1 (λ b other. bare.2 b (other_key c.args.id b other)) c.release.ensures.whole c.release.ensures.allots).1
