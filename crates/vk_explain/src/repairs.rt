@@ -3,9 +3,10 @@ ghost use Rattle.vk_model.specs.Rules.Table.{first_fault};
 ghost use Rattle.vk_explain.specs.Inner.Repaired.{IsSought};
 
 use std::alloc::{AllocError, Global};
+use vk_edits::{Change, Edit, InBatch, Member, moved};
 use vk_model::{At, Entry, Rule};
 use vk_notes::summary_of;
-use vk_repairs::{Change, Edit, InBatch, Member, Repair, moved, repair};
+use vk_repairs::{Repair, repair};
 use vk_words::{point_words, push_at};
 use vk_writer::{command_json, entry_json, submit_json};
 

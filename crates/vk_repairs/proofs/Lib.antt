@@ -1,3 +1,2 @@
-pub mod Changes
 pub mod Starts
 pub mod Helping

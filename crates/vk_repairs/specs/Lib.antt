@@ -1,4 +1,3 @@
-pub mod Edits
 pub mod Starts
 pub mod Repairs
 pub mod Inner

@@ -4,8 +4,8 @@ use Rattle.vk_model.specs.declared.entry.Entry.{Entry}
 use Rattle.vk_model.specs.declared.rule.At.{At}
 use Rattle.vk_model.specs.Trace.Order.{order}
 use Rattle.vk_model.specs.Rules.Table.{first_fault}
+use Rattle.vk_edits.specs.Edits.{edited, moved}
 use Rattle.vk_repairs.specs.declared.found.Repair.{Repair}
-use Rattle.vk_repairs.specs.Edits.{edited, moved}
 use Rattle.vk_repairs.specs.Starts.{sound_start, all_points, IsAmong}
 
 -- Edits move the first fault of a trace to a later point of it: more of its points come before, those that the edits add not counted, and the refused one is among them.

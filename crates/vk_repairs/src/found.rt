@@ -1,4 +1,4 @@
-use crate::edits::Edit;
+use vk_edits::Edit;
 use vk_model::{At, Entry, Rule};
 
 /// Edits of a refused trace, with what they lead to.

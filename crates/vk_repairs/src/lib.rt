@@ -1,56 +1,11 @@
 //! Repairs of a refused trace: edits after which it is accepted, or its first fault comes later.
 #![tactic(auto)]
 
-mod applying;
-mod candidates;
-mod cases;
-mod contents;
 mod counting;
-mod edits;
-mod ending;
-mod entries;
-mod events;
-mod extents;
 mod found;
-mod halves;
-mod hazards;
-mod host_hazards;
-mod ids;
-mod images;
 mod judging;
-mod layouts;
-mod lists;
-mod lives;
-mod losses;
-mod masks;
-mod moving;
-mod orders;
-mod overlaps;
-mod owners;
-mod ownership;
-mod pieces;
-mod places;
-mod ranges;
-mod reaches;
-mod renaming;
 mod repairs;
-mod rows;
 mod seeking;
-mod semaphores;
-mod sharing;
-mod shortening;
-mod sides;
-mod sizes;
-mod stages;
-mod staging;
-mod stand_ins;
-mod transitions;
-mod undefined;
-mod uses;
-mod waits;
 
-pub use applying::edited;
-pub use edits::{Change, Edit, InBatch, Member};
 pub use found::Repair;
-pub use moving::moved;
 pub use repairs::repair;

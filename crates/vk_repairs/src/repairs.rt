@@ -10,16 +10,13 @@ ghost use Rattle.std.specs.Prelude.{List};
 ghost use Rattle.vk_model.specs.declared.entry.Entry.{Entry as AnyEntry};
 ghost use Rattle.vk_model.specs.declared.rule.At.{At as AnyAt};
 
-use crate::applying::edited;
-use crate::cases::{Candidates, Kind, PLAIN, STAND_IN, WEAKER};
 use crate::counting::all_points;
-use crate::edits::Edit;
 use crate::found::Repair;
 use crate::judging::{is_among, judge, with_start};
-use crate::moving::moved;
 use crate::seeking::{edits_of, followed, followed_twice, sought};
-use crate::shortening::{STEPS, may_go, with_less, without_edit};
 use std::alloc::{AllocError, Global};
+use vk_candidates::{Candidates, Kind, PLAIN, STAND_IN, WEAKER};
+use vk_edits::{Edit, STEPS, edited, may_go, moved, with_less, without_edit};
 use vk_model::{At, Entry, Rule};
 use vk_order::Point;
 use vk_queues::reference_order;

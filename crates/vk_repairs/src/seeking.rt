@@ -1,11 +1,7 @@
-use crate::applying::edited;
-use crate::candidates::candidates;
-use crate::cases::{Candidates, Case, Kind, PLAIN, WEAKER};
-use crate::edits::Edit;
 use crate::judging::judge;
-use crate::moving::moved;
-use crate::shortening::{copy_of_edits, has_removal};
 use std::alloc::{AllocError, Global};
+use vk_candidates::{Candidates, Case, Kind, PLAIN, WEAKER, candidates};
+use vk_edits::{Edit, copy_of_edits, edited, has_removal, moved};
 use vk_model::{At, Entry, Rule};
 use vk_order::Point;
 use vk_queues::reference_order;

@@ -1,0 +1,156 @@
+use crate::edits::{Change, Edit, Member};
+use std::alloc::{AllocError, Global};
+use vk_model::{Accesses, Cmd, Dependency, Duplicate, Element, Sequence};
+
+/// In so many ways a barrier is made less.
+pub const STEPS: usize = 3;
+
+/// Equal edits. The only error is want of memory.
+pub fn copy_of_edits(alloc: Global, edits: &[Edit]) -> Result<Vec<Edit>, AllocError> {
+    let mut all = Vec::new(alloc);
+    for edit in edits {
+        all.push(copy_of_edit(edit)?)?;
+    }
+    Ok(all)
+}
+
+fn copy_of_edit(edit: &Edit) -> Result<Edit, AllocError> {
+    match edit {
+        Edit::Entry {
+            change,
+            number,
+            entry,
+        } => Ok(Edit::Entry {
+            change: *change,
+            number: *number,
+            entry: entry.duplicate()?,
+        }),
+        Edit::Remove { number } => Ok(Edit::Remove { number: *number }),
+        Edit::Member { change, at, member } => Ok(Edit::Member {
+            change: *change,
+            at: *at,
+            member: copy_of_member(member)?,
+        }),
+    }
+}
+
+fn copy_of_member(member: &Member) -> Result<Member, AllocError> {
+    match member {
+        Member::Wait(wait) => Ok(Member::Wait(*wait)),
+        Member::Command(command) => Ok(Member::Command(command.duplicate()?)),
+        Member::Signal(signal) => Ok(Member::Signal(*signal)),
+    }
+}
+
+/// Whether the trace asks for as much without an edit: what is moved or taken apart stays whole.
+pub fn may_go(edits: &[Edit], number: usize) -> bool {
+    match edits.get(number) {
+        Some(
+            Edit::Entry {
+                change: Change::Insert,
+                ..
+            },
+        ) => !has_removal(edits),
+        Some(
+            Edit::Member {
+                change: Change::Insert,
+                member: Member::Command(command),
+                ..
+            },
+        ) => matches!(command, Cmd::Barrier { .. }),
+        _ => true,
+    }
+}
+
+/// Whether an entry is taken out.
+pub fn has_removal(edits: &[Edit]) -> bool {
+    for edit in edits {
+        if let Edit::Remove { .. } = edit {
+            return true;
+        }
+    }
+    false
+}
+
+/// The edits without one of them. The only error is want of memory.
+pub fn without_edit(alloc: Global, edits: &[Edit], number: usize) -> Result<Vec<Edit>, AllocError> {
+    let mut fewer = Vec::new(alloc);
+    for (place, edit) in edits.iter().enumerate() {
+        if place != number {
+            fewer.push(copy_of_edit(edit)?)?;
+        }
+    }
+    Ok(fewer)
+}
+
+/// The edits with one access less in a barrier on all memory that one of them inserts; none where it
+/// hasn't that access. The only error is want of memory.
+pub fn with_less(
+    alloc: Global,
+    edits: &[Edit],
+    number: usize,
+    step: usize,
+) -> Result<Option<Vec<Edit>>, AllocError> {
+    let mut is_less = false;
+    let mut all = Vec::new(alloc);
+    for (place, edit) in edits.iter().enumerate() {
+        let less = match edit {
+            Edit::Member {
+                change: Change::Insert,
+                at,
+                member: Member::Command(Cmd::Barrier { elements }),
+            } if place == number => match lesser(alloc, elements.as_slice(), step)? {
+                Some(elements) => Some(Edit::Member {
+                    change: Change::Insert,
+                    at: *at,
+                    member: Member::Command(Cmd::Barrier { elements }),
+                }),
+                None => None,
+            },
+            _ => None,
+        };
+        match less {
+            Some(less) => {
+                is_less = true;
+                all.push(less)?;
+            }
+            None => all.push(copy_of_edit(edit)?)?,
+        }
+    }
+    Ok(if is_less { Some(all) } else { None })
+}
+
+/// A single element on all memory, with one access less.
+fn lesser(
+    alloc: Global,
+    elements: &[Element],
+    step: usize,
+) -> Result<Option<Sequence<Element>>, AllocError> {
+    let Some(Element::Memory(dependency)) = elements.first() else {
+        return Ok(None);
+    };
+    let less = less_by(*dependency, step);
+    if elements.len() != 1 || less == *dependency {
+        return Ok(None);
+    }
+    let elements = vec![in alloc; Element::Memory(less)]?;
+    Ok(Some(Sequence::new(elements)))
+}
+
+/// A dependency with one access less: a read after it, a write after it, a write before it.
+fn less_by(dependency: Dependency, step: usize) -> Dependency {
+    let before = dependency.source_accesses.0;
+    let after = dependency.destination_accesses.0;
+    let reads = Accesses::TRANSFER_READ.0;
+    let writes = Accesses::TRANSFER_WRITE.0;
+    let (before, after) = match step {
+        0 => (before, after & !reads),
+        1 => (before, after & !writes),
+        _ => (before & !writes, after),
+    };
+    Dependency {
+        source_accesses: Accesses(before),
+        destination_accesses: Accesses(after),
+        ..dependency
+    }
+}
