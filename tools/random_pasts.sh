@@ -22,8 +22,8 @@ for crate in vk_ids vk_model vk_order; do
 done
 tests=$room/crates/pasts/src
 mkdir -p "$tests/order"
-cp "$here/../crates/library_tests/src/order.rt" "$tests"
-cp "$here/../crates/library_tests/src/order/drawn.rt" "$tests/order"
+cp "$here/../crates/part_tests/src/order.rt" "$tests"
+cp "$here/../crates/part_tests/src/order/drawn.rt" "$tests/order"
 for file in "$here"/random_pasts/*.rt.in; do
     cp "$file" "$tests/order/$(basename "$file" .in)"
 done

@@ -2,7 +2,9 @@ ghost use Rattle.std.specs.Prelude.{◌≡◌, IfOk};
 ghost use Rattle.vk_model.specs.Memory.Pools.{new_block};
 ghost use Rattle.vma_blocks.specs.Blocks.{block_of};
 
+use super::expect::expect;
 use std::alloc::{AllocError, Global};
+use std::process::Abort;
 use std::test::Fail;
 use vk_model::{Kind, PoolInfo, PoolKind, SubFault};
 use vma_blocks::{AnyBlock, PoolBlock};
@@ -43,78 +45,71 @@ fn nothing_left(alloc: Global) -> Result<AnyBlock, SubFault> {
     Ok(block)
 }
 
+/// A request of so many bytes, from the upper end or not, with its place and the longest free range
+/// after it.
+type Request = (u64, bool, Result<u64, SubFault>, u64);
+
 /// The only block of a linear pool is a ring.
-#[test]
-fn the_only_block_is_a_ring(rt: HostRuntime) -> Result<(), Fail> {
-    let mut block = half_left(rt.alloc(), 1).ok().ok_or("no place")?;
-    assert_eq!(rt; block.allocate(16, 16, Kind::Linear, false), Ok(0));
-    assert_eq!(rt; block.largest_free(), 16);
-    assert_eq!(rt;
-        block.allocate(16, 16, Kind::Linear, true),
-        Err(SubFault::NoRoom)
-    );
-    assert_eq!(rt; block.allocate(16, 16, Kind::Linear, false), Ok(16));
-    assert_eq!(rt;
-        block.allocate(16, 16, Kind::Linear, false),
-        Err(SubFault::NoRoom)
-    );
-    Ok(())
-}
+static RING: [Request; 4] = [
+    (16, false, Ok(0), 16),
+    (16, true, Err(SubFault::NoRoom), 16),
+    (16, false, Ok(16), 0),
+    (16, false, Err(SubFault::NoRoom), 0),
+];
 
 /// One of several blocks is no ring.
-#[test]
-fn one_of_two_blocks_is_no_ring(rt: HostRuntime) -> Result<(), Fail> {
-    let mut block = half_left(rt.alloc(), 2).ok().ok_or("no place")?;
-    assert_eq!(rt;
-        block.allocate(16, 16, Kind::Linear, false),
-        Err(SubFault::NoRoom)
-    );
-    assert_eq!(rt; block.largest_free(), 32);
-    Ok(())
-}
+static NO_RING: [Request; 1] = [(16, false, Err(SubFault::NoRoom), 32)];
 
 /// Stacks from both ends meet.
-#[test]
-fn stacks_meet(rt: HostRuntime) -> Result<(), Fail> {
-    let mut block = small(rt.alloc(), PoolKind::Linear, 2)?;
-    assert!(rt; block.is_empty());
-    for (bytes, upper, start) in [(16, true, 48), (32, false, 0), (16, true, 32)] {
-        assert_eq!(rt; block.allocate(bytes, 16, Kind::Linear, upper), Ok(start));
-        assert!(rt; !block.is_empty());
-    }
-    for upper in [false, true] {
-        assert_eq!(rt;
-            block.allocate(16, 16, Kind::Linear, upper),
-            Err(SubFault::NoRoom)
-        );
-    }
-    assert_eq!(rt; block.largest_free(), 0);
-    Ok(())
-}
+static STACKS: [Request; 5] = [
+    (16, true, Ok(48), 48),
+    (32, false, Ok(0), 16),
+    (16, true, Ok(32), 0),
+    (16, false, Err(SubFault::NoRoom), 0),
+    (16, true, Err(SubFault::NoRoom), 0),
+];
 
 /// A block that can be defragmented is full where all of it is taken.
+static FULL: [Request; 2] = [(64, true, Ok(0), 0), (16, false, Err(SubFault::NoRoom), 0)];
+
+fn expect_places(rt: &impl Abort, block: &mut AnyBlock, requests: &[Request]) {
+    for (number, (bytes, upper, place, longest)) in requests.iter().enumerate() {
+        assert!(rt; *bytes > 0 && *bytes % 16 == 0);
+        let got = block.allocate(*bytes, 16, Kind::Linear, *upper);
+        expect(rt, number, got, *place);
+        let left = (block.largest_free(), block.is_empty());
+        expect(rt, number, left, (*longest, false));
+    }
+}
+
 #[test]
-fn a_block_is_full(rt: HostRuntime) -> Result<(), Fail> {
-    let mut block = small(rt.alloc(), PoolKind::Tlsf, 1)?;
-    let below = block.allocate_below(32, 16, Kind::Linear, 24);
-    assert_eq!(rt; below, Err(SubFault::NoRoom));
-    assert_eq!(rt; block.allocate(64, 16, Kind::Linear, true), Ok(0));
-    assert_eq!(rt;
-        block.allocate(16, 16, Kind::Linear, false),
-        Err(SubFault::NoRoom)
-    );
-    assert!(rt; !block.is_empty());
-    assert_eq!(rt; block.largest_free(), 0);
+fn a_linear_block_of_a_pool(rt: HostRuntime) -> Result<(), Fail> {
+    let mut ring = half_left(rt.alloc(), 1)?;
+    expect_places(&rt, &mut ring, &RING);
+    let mut no_ring = half_left(rt.alloc(), 2)?;
+    expect_places(&rt, &mut no_ring, &NO_RING);
+    let mut stacks = small(rt.alloc(), PoolKind::Linear, 2)?;
+    expect(&rt, "a new block", stacks.is_empty(), true);
+    expect_places(&rt, &mut stacks, &STACKS);
     Ok(())
 }
 
 /// It is empty again once all was given back.
+fn expect_empty(rt: &impl Abort, block: &mut AnyBlock) {
+    let left = (block.is_empty(), block.largest_free());
+    expect(rt, "what is left", left, (true, 64));
+    let all = block.allocate(64, 16, Kind::Optimal, false);
+    expect(rt, "all of it", all, Ok(0));
+}
+
 #[test]
-fn a_block_is_empty_again(rt: HostRuntime) -> Result<(), Fail> {
-    let mut block = nothing_left(rt.alloc()).ok().ok_or("no place")?;
-    assert!(rt; block.is_empty());
-    assert_eq!(rt; block.largest_free(), 64);
-    assert_eq!(rt; block.allocate(64, 16, Kind::Optimal, false), Ok(0));
+fn a_block_that_can_be_defragmented(rt: HostRuntime) -> Result<(), Fail> {
+    let mut block = small(rt.alloc(), PoolKind::Tlsf, 1)?;
+    let below = block.allocate_below(32, 16, Kind::Linear, 24);
+    expect(&rt, "below", below, Err(SubFault::NoRoom));
+    expect_places(&rt, &mut block, &FULL);
+    let mut again = nothing_left(rt.alloc())?;
+    expect_empty(&rt, &mut again);
     Ok(())
 }
 
@@ -139,8 +134,8 @@ fn beside_a_hole(alloc: Global, memory_type: u32) -> Result<u64, SubFault> {
 /// over a hole of just the length.
 #[test]
 fn blocks_of_one_kind_ask_for_no_page_more(rt: HostRuntime) {
-    assert_eq!(rt; beside_a_hole(rt.alloc(), 0), Ok(512));
-    for memory_type in [1, 2] {
-        assert_eq!(rt; beside_a_hole(rt.alloc(), memory_type), Ok(16));
+    for (memory_type, place) in [(0, 512), (1, 16), (2, 16)] {
+        let got = beside_a_hole(rt.alloc(), memory_type);
+        expect(&rt, memory_type, got, Ok(place));
     }
 }

@@ -5,6 +5,8 @@
 #[cfg(test)]
 mod blocks;
 #[cfg(test)]
+mod expect;
+#[cfg(test)]
 mod free_lists;
 #[cfg(test)]
 mod linear_blocks;
@@ -12,3 +14,5 @@ mod linear_blocks;
 mod pools;
 #[cfg(test)]
 mod slots;
+#[cfg(test)]
+mod stand;

@@ -1,43 +1,68 @@
+use super::expect::expect;
+use std::alloc::AllocError;
+use std::process::Abort;
 use std::test::Fail;
 use vk_model::{Kind, SubFault, Suballoc};
 use vma_linear::Linear;
+
+/// Expects where requests of so many bytes go in the lower stack.
+fn expect_lower(rt: &impl Abort, block: &mut Linear, rows: &[(u64, Result<u64, SubFault>)]) {
+    for (bytes, place) in rows {
+        assert!(rt; *bytes > 0 && *bytes % 16 == 0);
+        let got = block.allocate_lower(*bytes, 16, Kind::Linear);
+        expect(rt, *bytes, got, *place);
+    }
+}
+
+static BOTH_HALVES: [(u64, Result<u64, SubFault>); 2] = [(2048, Ok(0)), (2048, Ok(2048))];
+
+static FIRST_HALF: [(u64, Result<u64, SubFault>); 3] = [
+    (1024, Ok(0)),
+    (1024, Ok(1024)),
+    (16, Err(SubFault::NoRoom)),
+];
+
+fn expect_ring(rt: &impl Abort, block: &mut Linear) {
+    expect_lower(rt, block, &BOTH_HALVES);
+    block.give_back(0);
+    expect_lower(rt, block, &FIRST_HALF);
+    block.give_back(2048);
+    expect(rt, "the longest", block.largest_free(), 2048);
+    let place = block.allocate(2048, 16, Kind::Linear);
+    expect(rt, "the second half", place, Ok(2048));
+}
+
+fn taken_bytes(block: &Linear) -> Result<u64, AllocError> {
+    let mut sum = 0_u64;
+    for range in block.taken()?.as_slice() {
+        sum = sum.saturating_add(range.size);
+    }
+    Ok(sum)
+}
 
 /// Ranges go round to the start of a ring, and are its lower stack once nothing else is left there.
 #[test]
 fn a_ring_goes_round(rt: HostRuntime) -> Result<(), Fail> {
     let mut block = Linear::new(rt.alloc(), 4096, true);
-    for (bytes, start) in [(2048, 0), (2048, 2048)] {
-        assert_eq!(rt; block.allocate_lower(bytes, 16, Kind::Linear), Ok(start));
-    }
-    block.give_back(0);
-    for (bytes, start) in [(1024, 0), (1024, 1024)] {
-        assert_eq!(rt; block.allocate_lower(bytes, 16, Kind::Linear), Ok(start));
-    }
-    assert_eq!(rt;
-        block.allocate_lower(16, 16, Kind::Linear),
-        Err(SubFault::NoRoom)
-    );
-    block.give_back(2048);
-    assert_eq!(rt; block.largest_free(), 2048);
-    assert_eq!(rt; block.allocate(2048, 16, Kind::Linear), Ok(2048));
-    let mut sum = 0_u64;
-    for range in block.taken()?.as_slice() {
-        sum = sum.saturating_add(range.size);
-    }
-    assert_eq!(rt; sum, 4096);
+    expect_ring(&rt, &mut block);
+    expect(&rt, "all bytes", taken_bytes(&block)?, 4096);
     Ok(())
 }
 
 /// An upper stack grows down from the end of the block.
+fn expect_upper(rt: &impl Abort, block: &mut Linear) {
+    let first = block.allocate_upper(1024, 16, Kind::Linear);
+    expect(rt, "the first", first, Ok(3072));
+    let below = block.allocate_lower(2048, 16, Kind::Linear);
+    expect(rt, "below", below, Ok(0));
+    let second = block.allocate_upper(1024, 16, Kind::Linear);
+    expect(rt, "the second", second, Ok(2048));
+    let full = block.allocate_lower(16, 16, Kind::Linear);
+    expect(rt, "full", full, Err(SubFault::NoRoom));
+}
+
 #[test]
-fn an_upper_stack_grows_down(rt: HostRuntime) -> Result<(), Fail> {
+fn an_upper_stack_grows_down(rt: HostRuntime) {
     let mut block = Linear::new(rt.alloc(), 4096, true);
-    assert_eq!(rt; block.allocate_upper(1024, 16, Kind::Linear), Ok(3072));
-    assert_eq!(rt; block.allocate_lower(2048, 16, Kind::Linear), Ok(0));
-    assert_eq!(rt; block.allocate_upper(1024, 16, Kind::Linear), Ok(2048));
-    assert_eq!(rt;
-        block.allocate_lower(16, 16, Kind::Linear),
-        Err(SubFault::NoRoom)
-    );
-    Ok(())
+    expect_upper(&rt, &mut block);
 }

@@ -1,189 +1,18 @@
 ghost use Rattle.std.specs.Prelude.{◌≡◌, IfOk};
-ghost use Rattle.vk_model.specs.Memory.Suballocation.{IsRequest};
-ghost use Rattle.vma_blocks.specs.PoolInfos.{IsPoolInfo};
 ghost use Rattle.vma_pools.specs.State.{Backs};
 
-use std::alloc::{AllocError, Global};
+use super::expect::expect;
+use super::stand::{
+    Stand, cancel, end, fill, map, one_pool, put, rebind, reserve, spot, stats, unmap,
+};
+use std::alloc::Global;
+use std::process::Abort;
 use std::test::Fail;
-use vk_memory::{MapState, Memories, MemoryError};
-use vk_model::{Config, Kind, PoolInfo, PoolKind, Statistics};
-use vma_pools::{Allocation, Asked, Home, PoolPlace, Pools};
+use vk_memory::{MapState, MemoryError};
+use vk_model::{Kind, Statistics};
+use vma_pools::{Asked, PoolPlace};
 
-/// Pools, over two heaps of 65,536 bytes.
-#[derive(Drop)]
-struct Stand {
-    pools: Pools,
-    memories: Memories,
-}
-
-/// One pool of blocks of so many bytes, which can be defragmented.
-fn one_pool(
-    alloc: Global,
-    memory_type: u32,
-    block_size: u64,
-    block_limit: u32,
-) -> Result<Stand, &'static str>
-    requires { IsPoolInfo (record { kind = PoolKind.Tlsf; memory_type = memory_type; block_size = block_size; block_limit = block_limit }) }
-    ensures { IfOk result (λ s. Backs s.pools s.memories) }
-{
-    let config = Config::new(65536, 65536).ok_or("no heap")?;
-    let mut pools = Pools::new(alloc);
-    let info = PoolInfo {
-        kind: PoolKind::Tlsf,
-        memory_type,
-        block_size,
-        block_limit,
-    };
-    match pools.pool(info) {
-        Ok(_) => Ok(Stand {
-            pools,
-            memories: Memories::new(alloc, config),
-        }),
-        Err(AllocError) => Err("no memory"),
-    }
-}
-
-/// Puts an allocation in the pool.
-fn put(stand: &mut Stand, size: u64, align: u64, kind: Kind) -> Result<u64, MemoryError>
-    requires request { IsRequest size align }
-    requires backs { Backs stand.old.pools stand.old.memories }
-    ensures { Backs stand.new.pools stand.new.memories }
-{
-    if !stand.pools.is_pool(0) || stand.pools.info(0).block_size < size {
-        return Err(MemoryError::NoRoom);
-    }
-    let asked = Asked { size, align, kind };
-    stand.pools.allocate(&mut stand.memories, 0, asked, false)
-}
-
-/// Ends an allocation that is at rest.
-fn end(stand: &mut Stand, allocation: u64) -> Result<Option<u64>, &'static str>
-    requires { Backs stand.old.pools stand.old.memories }
-    ensures { Backs stand.new.pools stand.new.memories }
-{
-    match stand.pools.allocation(allocation) {
-        Some(Allocation { target: None, .. }) => {
-            Ok(stand.pools.free(&mut stand.memories, allocation))
-        }
-        _ => Err("not at rest"),
-    }
-}
-
-/// Reserves the move target of an allocation.
-fn reserve(stand: &mut Stand, allocation: u64) -> Result<Option<PoolPlace>, &'static str>
-    requires { Backs stand.old.pools stand.old.memories }
-    ensures { Backs stand.new.pools stand.new.memories }
-{
-    let Some(live) = stand.pools.allocation(allocation) else {
-        return Err("no allocation");
-    };
-    let Home::Shared { pool, .. } = live.home else {
-        return Err("not in a pool");
-    };
-    if live.target.is_some() || !stand.pools.is_pool(pool) {
-        return Err("moves");
-    }
-    match stand.pools.info(pool).kind {
-        PoolKind::Tlsf => {}
-        PoolKind::Linear => return Err("in a linear pool"),
-    }
-    match stand.pools.reserve_lower(allocation) {
-        Ok(target) => Ok(target),
-        Err(AllocError) => Err("no memory"),
-    }
-}
-
-/// Cancels the move of an allocation.
-fn cancel(stand: &mut Stand, allocation: u64) -> Result<Option<u64>, &'static str>
-    requires { Backs stand.old.pools stand.old.memories }
-    ensures { Backs stand.new.pools stand.new.memories }
-{
-    match stand.pools.allocation(allocation) {
-        Some(
-            Allocation {
-                home: Home::Shared { .. },
-                target: Some(_),
-                ..
-            },
-        ) => Ok(stand.pools.cancel(&mut stand.memories, allocation)),
-        _ => Err("no move"),
-    }
-}
-
-/// Makes the move of an allocation.
-fn rebind(stand: &mut Stand, allocation: u64) -> Result<Option<u64>, &'static str>
-    requires { Backs stand.old.pools stand.old.memories }
-    ensures { Backs stand.new.pools stand.new.memories }
-{
-    match stand.pools.allocation(allocation) {
-        Some(
-            Allocation {
-                home: Home::Shared { .. },
-                target: Some(_),
-                ..
-            },
-        ) => Ok(stand.pools.rebind(&mut stand.memories, allocation)),
-        _ => Err("no move"),
-    }
-}
-
-/// The memory object of an allocation, and where it starts there.
-fn spot(stand: &Stand, allocation: u64) -> Option<(u64, u64)> {
-    match stand.pools.allocation(allocation) {
-        Some(_) => {
-            let spot = stand.pools.place(allocation);
-            Some((spot.memory, spot.offset))
-        }
-        None => None,
-    }
-}
-
-/// How much of the pool is in use.
-fn stats(stand: &Stand) -> Option<Statistics> {
-    if stand.pools.is_pool(0) {
-        Some(stand.pools.stats(0))
-    } else {
-        None
-    }
-}
-
-/// Puts so many allocations of 1,024 bytes.
-fn fill(stand: &mut Stand, count: u64) -> Result<(), &'static str>
-    requires { Backs stand.old.pools stand.old.memories }
-    ensures { Backs stand.new.pools stand.new.memories }
-{
-    for _number in 0..count {
-        if put(stand, 1024, 16, Kind::Linear).is_err() {
-            return Err("no room");
-        }
-    }
-    Ok(())
-}
-
-/// Ends allocations, of which no block goes.
-fn end_all(stand: &mut Stand, allocations: &[u64]) -> Result<(), &'static str>
-    requires { Backs stand.old.pools stand.old.memories }
-    ensures { Backs stand.new.pools stand.new.memories }
-{
-    for allocation in allocations {
-        if end(stand, *allocation)?.is_some() {
-            return Err("a block has gone");
-        }
-    }
-    Ok(())
-}
-
-/// Eight allocations of 1,024 bytes in two blocks of 4,096, of which each second one is left.
-fn halves(alloc: Global) -> Result<Stand, &'static str>
-    ensures { IfOk result (λ s. Backs s.pools s.memories) }
-{
-    let mut stand = one_pool(alloc, 1, 4096, 2)?;
-    fill(&mut stand, 8)?;
-    end_all(&mut stand, &[0, 2, 4, 6])?;
-    Ok(stand)
-}
-
-/// What is in use after that.
+/// What is in use where each second one of eight allocations of 1,024 bytes is left.
 const HALF: Statistics = Statistics {
     blocks: 2,
     allocations: 4,
@@ -192,162 +21,269 @@ const HALF: Statistics = Statistics {
     largest_free: 1024,
 };
 
-/// Statistics, the order by place, and where a move goes.
-#[test]
-fn half_of_two_blocks_is_left(rt: HostRuntime) -> Result<(), Fail> {
-    let mut stand = halves(rt.alloc())?;
-    assert_eq!(rt; stats(&stand), Some(HALF));
-    assert_eq!(rt;
-        stand.pools.by_place(0)?.as_slice(),
-        [7, 5, 3, 1].as_slice()
-    );
-    assert_eq!(rt; spot(&stand, 7), Some((1, 3072)));
-    let target = PoolPlace { block: 0, start: 0 };
-    assert_eq!(rt; reserve(&mut stand, 7)?, Some(target));
-    assert_eq!(rt; stats(&stand).map(|now| now.used), Some(5120));
+/// What is done with the allocations of the pool, or asked of them.
+enum Step {
+    /// So many of 1,024 bytes are put there.
+    Fill(u64),
+    /// One is put there, with a size and an alignment: its number.
+    Put(u64, u64, Kind, Result<u64, MemoryError>),
+    /// One ends: the memory object that goes with it.
+    End(u64, Option<u64>),
+    /// The target of its move is reserved.
+    Reserve(u64, Option<PoolPlace>),
+    /// Its move is cancelled: the memory object that goes with the target.
+    Cancel(u64, Option<u64>),
+    /// Its move is made: the memory object that goes with its old place.
+    Rebind(u64, Option<u64>),
+    /// Its memory object, and where it starts there.
+    Spot(u64, (u64, u64)),
+    /// How much of the pool is in use.
+    Stats(Statistics),
+    /// Its blocks, the bytes of them that are used, and the longest free range.
+    Size(usize, u64, u64),
+    /// All allocations, by place, the last one first.
+    ByPlace(&'static [u64]),
+}
+
+use Step::{ByPlace, Cancel, End, Fill, Put, Rebind, Reserve, Size, Spot, Stats};
+
+/// Puts an allocation in the pool, where its size and its alignment are those of a request.
+fn put_asked(
+    rt: &impl Abort,
+    stand: &mut Stand,
+    size: u64,
+    align: u64,
+    kind: Kind,
+) -> Result<u64, MemoryError>
+    requires { Backs stand.old.pools stand.old.memories }
+    ensures { Backs stand.new.pools stand.new.memories }
+{
+    assert!(rt; size > 0 && size % 16 == 0);
+    assert!(rt; align == 16 || align == 64 || align == 256);
+    put(stand, size, align, kind)
+}
+
+/// Does a step that may change the pool, and expects what it says.
+fn follow(rt: &impl Abort, stand: &mut Stand, step: &Step) -> Result<(), &'static str>
+    requires { Backs stand.old.pools stand.old.memories }
+    ensures { Backs stand.new.pools stand.new.memories }
+{
+    match step {
+        Fill(count) => fill(stand, *count),
+        Put(size, align, kind, wanted) => {
+            let got = put_asked(rt, stand, *size, *align, *kind);
+            expect(rt, "an allocation", got, *wanted);
+            Ok(())
+        }
+        End(allocation, wanted) => {
+            expect(rt, "an end", end(stand, *allocation)?, *wanted);
+            Ok(())
+        }
+        Reserve(allocation, wanted) => {
+            expect(rt, "a target", reserve(stand, *allocation)?, *wanted);
+            Ok(())
+        }
+        Cancel(allocation, wanted) => {
+            expect(rt, "a cancel", cancel(stand, *allocation)?, *wanted);
+            Ok(())
+        }
+        Rebind(allocation, wanted) => {
+            expect(rt, "a move", rebind(stand, *allocation)?, *wanted);
+            Ok(())
+        }
+        Spot(..) | Stats(_) | Size(..) | ByPlace(_) => look(rt, stand, step),
+    }
+}
+
+/// Expects what a step says of the pool.
+fn look(rt: &impl Abort, stand: &Stand, step: &Step) -> Result<(), &'static str> {
+    match step {
+        Spot(allocation, wanted) => {
+            expect(rt, "a place", spot(stand, *allocation), Some(*wanted));
+        }
+        Stats(wanted) => expect(rt, "statistics", stats(stand), Some(*wanted)),
+        Size(blocks, used, longest) => {
+            let now = stats(stand).ok_or("no pool")?;
+            let got = (now.blocks, now.used, now.largest_free);
+            expect(rt, "sizes", got, (*blocks, *used, *longest));
+        }
+        ByPlace(wanted) => {
+            let order = stand.pools.by_place(0).ok().ok_or("no order")?;
+            expect(rt, "the order", order.as_slice(), *wanted);
+        }
+        _ => return Err("not asked"),
+    }
     Ok(())
 }
 
+fn follow_all(rt: &impl Abort, stand: &mut Stand, steps: &[Step]) -> Result<(), &'static str>
+    requires { Backs stand.old.pools stand.old.memories }
+    ensures { Backs stand.new.pools stand.new.memories }
+{
+    for step in steps {
+        follow(rt, stand, step)?;
+    }
+    Ok(())
+}
+
+static EACH_SECOND_ENDS: [Step; 4] = [End(0, None), End(2, None), End(4, None), End(6, None)];
+
+/// Eight allocations of 1,024 bytes in two blocks of 4,096, of which each second one is left.
+fn halves(rt: &impl Abort, alloc: Global) -> Result<Stand, &'static str>
+    ensures { IfOk result (λ s. Backs s.pools s.memories) }
+{
+    let mut stand = one_pool(alloc, 1, 4096, 2)?;
+    fill(&mut stand, 8)?;
+    follow_all(rt, &mut stand, &EACH_SECOND_ENDS)?;
+    Ok(stand)
+}
+
+const FIRST: PoolPlace = PoolPlace { block: 0, start: 0 };
+
+const SECOND: PoolPlace = PoolPlace {
+    block: 0,
+    start: 2048,
+};
+
+/// Statistics, the order by place, and where a move goes.
+static HALF_OF_TWO_BLOCKS: [Step; 5] = [
+    Stats(HALF),
+    ByPlace(&[7, 5, 3, 1]),
+    Spot(7, (1, 3072)),
+    Reserve(7, Some(FIRST)),
+    Size(2, 5120, 1024),
+];
+
 /// Two moves are made: the second takes the last range of its block, which goes.
-#[test]
-fn made_moves_empty_a_block(rt: HostRuntime) -> Result<(), Fail> {
-    let mut stand = halves(rt.alloc())?;
-    let first = PoolPlace { block: 0, start: 0 };
-    let second = PoolPlace {
-        block: 0,
-        start: 2048,
-    };
-    assert_eq!(rt; reserve(&mut stand, 7)?, Some(first));
-    assert_eq!(rt; reserve(&mut stand, 5)?, Some(second));
-    assert_eq!(rt; rebind(&mut stand, 7)?, None);
-    assert_eq!(rt; spot(&stand, 7), Some((0, 0)));
-    assert_eq!(rt; rebind(&mut stand, 5)?, Some(1));
-    assert_eq!(rt; spot(&stand, 5), Some((0, 2048)));
-    assert_eq!(rt;
-        stand.pools.by_place(0)?.as_slice(),
-        [3, 5, 1, 7].as_slice()
-    );
-    let full = Statistics {
+static MADE_MOVES: [Step; 9] = [
+    Reserve(7, Some(FIRST)),
+    Reserve(5, Some(SECOND)),
+    Rebind(7, None),
+    Spot(7, (0, 0)),
+    Rebind(5, Some(1)),
+    Spot(5, (0, 2048)),
+    ByPlace(&[3, 5, 1, 7]),
+    Stats(Statistics {
         blocks: 1,
         held: 4096,
         largest_free: 0,
         ..HALF
-    };
-    assert_eq!(rt; stats(&stand), Some(full));
-    assert_eq!(rt; reserve(&mut stand, 7)?, None);
-    Ok(())
-}
+    }),
+    Reserve(7, None),
+];
 
 /// A cancelled move leaves all as it was.
+static CANCELLED_MOVE: [Step; 4] = [
+    Reserve(5, Some(FIRST)),
+    Cancel(5, None),
+    Spot(5, (1, 1024)),
+    Stats(HALF),
+];
+
 #[test]
-fn a_cancelled_move_leaves_no_trace(rt: HostRuntime) -> Result<(), Fail> {
-    let mut stand = halves(rt.alloc())?;
-    let target = PoolPlace { block: 0, start: 0 };
-    assert_eq!(rt; reserve(&mut stand, 5)?, Some(target));
-    assert_eq!(rt; cancel(&mut stand, 5)?, None);
-    assert_eq!(rt; spot(&stand, 5), Some((1, 1024)));
-    assert_eq!(rt; stats(&stand), Some(HALF));
+fn moves(rt: HostRuntime) -> Result<(), Fail> {
+    let all = [
+        HALF_OF_TWO_BLOCKS.as_slice(),
+        MADE_MOVES.as_slice(),
+        CANCELLED_MOVE.as_slice(),
+    ];
+    for steps in all {
+        let mut stand = halves(&rt, rt.alloc())?;
+        follow_all(&rt, &mut stand, steps)?;
+    }
     Ok(())
 }
 
 /// A block is kept for a reserved range, and goes with it.
-#[test]
-fn a_reserved_range_keeps_its_block(rt: HostRuntime) -> Result<(), Fail> {
-    let mut stand = one_pool(rt.alloc(), 1, 2048, 0xffff_ffff)?;
-    fill(&mut stand, 3)?;
-    assert_eq!(rt; end(&mut stand, 0)?, None);
-    let target = PoolPlace { block: 0, start: 0 };
-    assert_eq!(rt; reserve(&mut stand, 2)?, Some(target));
-    assert_eq!(rt; end(&mut stand, 1)?, None);
-    assert_eq!(rt; cancel(&mut stand, 2)?, Some(0));
-    assert_eq!(rt; end(&mut stand, 2)?, Some(1));
-    assert_eq!(rt; stats(&stand).map(|now| now.blocks), Some(0));
-    Ok(())
-}
+static RESERVED_RANGE: [Step; 7] = [
+    Fill(3),
+    End(0, None),
+    Reserve(2, Some(FIRST)),
+    End(1, None),
+    Cancel(2, Some(0)),
+    End(2, Some(1)),
+    Size(0, 0, 0),
+];
 
 /// In a pool of one kind what was given back last is given first.
-#[test]
-fn the_last_range_is_given_first(rt: HostRuntime) -> Result<(), Fail> {
-    let mut stand = one_pool(rt.alloc(), 1, 4096, 1)?;
-    fill(&mut stand, 4)?;
-    assert_eq!(rt;
-        put(&mut stand, 16, 16, Kind::Linear),
-        Err(MemoryError::NoRoom)
-    );
-    assert_eq!(rt; end(&mut stand, 0)?, None);
-    assert_eq!(rt; end(&mut stand, 2)?, None);
-    assert_eq!(rt; put(&mut stand, 1024, 16, Kind::Linear), Ok(4));
-    assert_eq!(rt; spot(&stand, 4), Some((0, 2048)));
-    Ok(())
-}
+static LAST_RANGE: [Step; 6] = [
+    Fill(4),
+    Put(16, 16, Kind::Linear, Err(MemoryError::NoRoom)),
+    End(0, None),
+    End(2, None),
+    Put(1024, 16, Kind::Linear, Ok(4)),
+    Spot(4, (0, 2048)),
+];
 
 /// Ranges that are given back join.
-#[test]
-fn free_ranges_join(rt: HostRuntime) -> Result<(), Fail> {
-    let mut stand = one_pool(rt.alloc(), 2, 4096, 1)?;
-    fill(&mut stand, 4)?;
-    end_all(&mut stand, &[1, 0, 2])?;
-    assert_eq!(rt; stats(&stand).map(|now| now.largest_free), Some(3072));
-    assert_eq!(rt; put(&mut stand, 3072, 64, Kind::Linear), Ok(4));
-    assert_eq!(rt; spot(&stand, 4), Some((0, 0)));
-    Ok(())
-}
+static JOINED_RANGES: [Step; 7] = [
+    Fill(4),
+    End(1, None),
+    End(0, None),
+    End(2, None),
+    Size(1, 1024, 3072),
+    Put(3072, 64, Kind::Linear, Ok(4)),
+    Spot(4, (0, 0)),
+];
 
 /// On memory type 0 an optimal image shares no page with a buffer.
+static PAGES_OF_THEIR_OWN: [Step; 4] = [
+    Put(16, 16, Kind::Linear, Ok(0)),
+    Put(256, 256, Kind::Optimal, Ok(1)),
+    Spot(0, (0, 0)),
+    Spot(1, (0, 1024)),
+];
+
 #[test]
-fn images_have_pages_of_their_own(rt: HostRuntime) -> Result<(), Fail> {
-    let mut stand = one_pool(rt.alloc(), 0, 4096, 1)?;
-    assert_eq!(rt; put(&mut stand, 16, 16, Kind::Linear), Ok(0));
-    assert_eq!(rt; put(&mut stand, 256, 256, Kind::Optimal), Ok(1));
-    assert_eq!(rt; spot(&stand, 0), Some((0, 0)));
-    assert_eq!(rt; spot(&stand, 1), Some((0, 1024)));
+fn ranges(rt: HostRuntime) -> Result<(), Fail> {
+    let mut reserved = one_pool(rt.alloc(), 1, 2048, 0xffff_ffff)?;
+    follow_all(&rt, &mut reserved, &RESERVED_RANGE)?;
+    let all = [
+        (1, LAST_RANGE.as_slice()),
+        (2, JOINED_RANGES.as_slice()),
+        (0, PAGES_OF_THEIR_OWN.as_slice()),
+    ];
+    for (memory_type, steps) in all {
+        let mut stand = one_pool(rt.alloc(), memory_type, 4096, 1)?;
+        follow_all(&rt, &mut stand, steps)?;
+    }
     Ok(())
-}
-
-/// Maps an allocation once more.
-fn map(stand: &mut Stand, allocation: u64) -> bool {
-    match stand.pools.allocation(allocation) {
-        Some(live) if live.maps < 2 => {
-            stand.pools.map(allocation);
-            true
-        }
-        _ => false,
-    }
-}
-
-/// Unmaps an allocation once.
-fn unmap(stand: &mut Stand, allocation: u64) -> Option<Result<(), MapState>> {
-    match stand.pools.allocation(allocation) {
-        Some(_) => Some(stand.pools.unmap(allocation)),
-        None => None,
-    }
 }
 
 /// Map counts go by allocation, not by block.
+fn expect_maps(rt: &impl Abort, stand: &mut Stand) {
+    expect(rt, "one map", map(stand, 1), true);
+    expect(rt, "two maps", map(stand, 1), true);
+    expect(rt, "another one", unmap(stand, 3), Some(Err(MapState)));
+    expect(rt, "one is left", unmap(stand, 1), Some(Ok(())));
+    expect(rt, "none is left", unmap(stand, 1), Some(Ok(())));
+    expect(rt, "one too many", unmap(stand, 1), Some(Err(MapState)));
+    expect(rt, "one that has ended", unmap(stand, 0), None);
+}
+
 #[test]
 fn maps_are_counted_for_each(rt: HostRuntime) -> Result<(), Fail> {
-    let mut stand = halves(rt.alloc())?;
-    assert!(rt; map(&mut stand, 1));
-    assert!(rt; map(&mut stand, 1));
-    assert_eq!(rt; unmap(&mut stand, 3), Some(Err(MapState)));
-    assert_eq!(rt; unmap(&mut stand, 1), Some(Ok(())));
-    assert_eq!(rt; unmap(&mut stand, 1), Some(Ok(())));
-    assert_eq!(rt; unmap(&mut stand, 1), Some(Err(MapState)));
-    assert_eq!(rt; unmap(&mut stand, 0), None);
+    let mut stand = halves(&rt, rt.alloc())?;
+    expect_maps(&rt, &mut stand);
     Ok(())
 }
 
 /// An allocation with a memory object of its own lies at its start.
-#[test]
-fn an_own_object_has_offset_0(rt: HostRuntime) -> Result<(), Fail> {
-    let mut stand = halves(rt.alloc())?;
+fn own_object(stand: &mut Stand) -> Result<u64, MemoryError>
+    requires { Backs stand.old.pools stand.old.memories }
+{
     let asked = Asked {
         size: 16,
         align: 16,
         kind: Kind::Linear,
     };
-    let own = stand.pools.dedicated(&mut stand.memories, 1, asked);
-    assert_eq!(rt; own, Ok(8));
-    assert_eq!(rt; spot(&stand, 8), Some((2, 0)));
+    stand.pools.dedicated(&mut stand.memories, 1, asked)
+}
+
+#[test]
+fn an_own_object_has_offset_0(rt: HostRuntime) -> Result<(), Fail> {
+    let mut stand = halves(&rt, rt.alloc())?;
+    expect(&rt, "its number", own_object(&mut stand), Ok(8));
+    expect(&rt, "its place", spot(&stand, 8), Some((2, 0)));
     Ok(())
 }

@@ -1,28 +1,23 @@
+use super::expect::expect;
+use std::process::Abort;
 use std::test::Fail;
 use vk_nodes::{Node, Nodes, RangeState};
 
 /// Of two slots two are taken, each once, and a third is none; one that was given back is taken again.
-#[test]
-fn slots_are_taken_once(rt: HostRuntime) -> Result<(), Fail> {
-    let mut nodes = Nodes::new(rt.alloc());
-    assert_eq!(rt; nodes.take(), None);
-    nodes.reserve(2)?;
+fn expect_slots(rt: &impl Abort, nodes: &mut Nodes) -> Result<(), Fail> {
     let first = nodes.take().ok_or("no slot")?;
     let second = nodes.take().ok_or("no slot")?;
     assert!(rt; first != second);
-    assert_eq!(rt; nodes.take(), None);
-    assert_eq!(rt; nodes.slots(), 2);
+    assert!(rt; nodes.take().is_none());
+    expect(rt, "slots", nodes.slots(), 2);
     nodes.give(first);
-    assert_eq!(rt; nodes.free_slots(), 1);
-    assert_eq!(rt; nodes.take(), Some(first));
+    expect(rt, "free slots", nodes.free_slots(), 1);
+    expect(rt, "the first", nodes.take(), Some(first));
     Ok(())
 }
 
 /// A node is put into its slot alone.
-#[test]
-fn a_node_is_in_its_slot(rt: HostRuntime) -> Result<(), Fail> {
-    let mut nodes = Nodes::new(rt.alloc());
-    nodes.reserve(2)?;
+fn expect_node(rt: &impl Abort, nodes: &mut Nodes) -> Result<(), Fail> {
     let first = nodes.take().ok_or("no slot")?;
     let second = nodes.take().ok_or("no slot")?;
     let node = Node {
@@ -35,7 +30,18 @@ fn a_node_is_in_its_slot(rt: HostRuntime) -> Result<(), Fail> {
         state: RangeState::Optimal,
     };
     nodes.set(first, node);
-    assert_eq!(rt; nodes.get(first), node);
-    assert_eq!(rt; nodes.get(second), Node::empty());
+    expect(rt, "the node", nodes.get(first), node);
+    expect(rt, "the other one", nodes.get(second), Node::empty());
     Ok(())
+}
+
+#[test]
+fn slots(rt: HostRuntime) -> Result<(), Fail> {
+    let mut nodes = Nodes::new(rt.alloc());
+    assert!(rt; nodes.take().is_none());
+    nodes.reserve(2)?;
+    expect_slots(&rt, &mut nodes)?;
+    let mut others = Nodes::new(rt.alloc());
+    others.reserve(2)?;
+    expect_node(&rt, &mut others)
 }

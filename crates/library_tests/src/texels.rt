@@ -1,10 +1,11 @@
+use super::expect::expect;
+use super::replays::replayed;
 use std::alloc::Global;
 use std::test::Fail;
-use vk_device::{Device, replay};
+use vk_device::Device;
 use vk_image_tiles::Shape;
-use vk_model::{Config, First, Format, Kind};
+use vk_model::{Format, Kind};
 use vk_trace::read_trace;
-use vk_validate::{Verdict, validate};
 
 /// Two bytes are copied to texel (3, 4) of an optimal image of 9 by 5 texels of 16 bits.
 const UPLOAD: &str = r#"[["buffer",1,4,1,"exclusive",["dedicated",1]],
@@ -30,18 +31,15 @@ fn texel_of(device: &Device<'_>, x: u32, y: u32) -> Option<[u8; 2]> {
     Some(bytes)
 }
 
+fn uploaded(alloc: Global) -> Result<Option<[u8; 2]>, Fail> {
+    let entries = read_trace(alloc, UPLOAD.as_bytes())?;
+    let replayed = replayed(alloc, &entries)?;
+    Ok(texel_of(&replayed.device, 3, 4))
+}
+
 /// A texel is where its address says, from where the image lies on.
 #[test]
 fn a_texel_is_at_its_address(rt: HostRuntime) -> Result<(), Fail> {
-    let alloc = rt.alloc();
-    let entries = read_trace(alloc, UPLOAD.as_bytes())?;
-    let config = Config::new(65_536, 65_536).ok_or("no such heaps")?;
-    match validate(alloc, entries.as_slice())? {
-        Verdict::Refused(..) => assert!(rt; false),
-        Verdict::Accepted(accepted) => {
-            let replayed = replay(alloc, &accepted, config, &mut First)?;
-            assert_eq!(rt; texel_of(&replayed.device, 3, 4), Some([0xab, 0xcd]));
-        }
-    }
+    expect(&rt, "the texel", uploaded(rt.alloc())?, Some([0xab, 0xcd]));
     Ok(())
 }

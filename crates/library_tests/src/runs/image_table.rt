@@ -1,11 +1,11 @@
-use super::table::{Ending, REFUSED, REPLAYED};
+use super::table::{REFUSED, REPLAYED, Row};
 
 /// Rows of a buffer that are longer than those of an image's region, copied into the image and out.
 pub const IMAGE_ROWS: &str =
     r#"[["buffer",1,48,1,"exclusive",["dedicated",1]],["buffer",2,36,2,"exclusive",["dedicated",1]],["image",3,"R16_UINT",9,2,1,1,"optimal",3,"exclusive",["dedicated",0]],["semaphore",4,0],["map",1],["write",1,0,"000102030405060708090a0b0c0d0e0f101112131415161718191a1b1c1d1e1f20212223242526272829"],["submit",0,[[[],[["barrier",[],[],[[0,0,4096,4096,4294967295,4294967295,3,0,7,[0,1,0,1]]]],["copy_in",1,3,7,[[0,12,0,0,0,1,0,0,9,2]]],["barrier",[],[],[[4096,4096,4096,2048,4294967295,4294967295,3,7,6,[0,1,0,1]]]],["copy_out",3,6,2,[[0,0,0,0,0,1,0,0,9,2]]],["barrier",[[4096,4096,16384,8192]],[],[]]],[[4,1,65536]]]]],["wait",[[4,1]]],["map",2],["read",2,0,36]]"#;
 
 /// Traces of images, with what is written for them and how the run ends.
-pub const IMAGES: [(&str, &str, Ending); 15] = [
+pub static IMAGES: [Row; 15] = [
     (
         IMAGE_ROWS,
         "9 000102030405060708090a0b0c0d0e0f101118191a1b1c1d1e1f20212223242526272829\n",

@@ -1,7 +1,7 @@
-use super::table::{Ending, REFUSED, REPLAYED, STOPPED};
+use super::table::{REFUSED, REPLAYED, Row, STOPPED};
 
 /// Traces with pools, with what is written and how they end.
-pub const POOLS: [(&str, &str, Ending); 15] = [
+pub static POOLS: [Row; 15] = [
     (
         r#"[["pool",1,"tlsf",1,4096,2],["buffer",10,1024,3,"exclusive",["pool",1]],["buffer",11,1024,3,"exclusive",["pool",1]],["buffer",12,1024,3,"exclusive",["pool",1]],["buffer",13,1024,3,"exclusive",["pool",1]],["buffer",14,1024,3,"exclusive",["pool",1]],["buffer",15,1024,3,"exclusive",["pool",1]],["buffer",16,1024,3,"exclusive",["pool",1]],["buffer",17,1024,3,"exclusive",["pool",1]],["map",17],["write",17,0,"abcd"],["destroy",10],["destroy",12],["destroy",14],["destroy",16],["read",17,0,2],["buffer",20,2048,3,"exclusive",["pool",1]]]"#,
         "15 abcd\nstopped 16 NO_ROOM\n",

@@ -3,6 +3,9 @@ use vk_trace::{RunError, Status};
 /// How a run ends.
 pub type Ending = Result<Status, RunError>;
 
+/// A trace, what is written for it, and how the run ends.
+pub type Row = (&'static str, &'static str, Ending);
+
 /// Each entry is replayed.
 pub const REPLAYED: Ending = Ok(Status::Replayed);
 
@@ -31,7 +34,7 @@ pub const CACHED_ACCESSES: &str =
     r#"[["buffer",1,100,3,"exclusive",["dedicated",2]],["map",1],["write",1,64,"aa"],["flush",1,64,1],["invalidate",1,64,1],["read",1,64,1]]"#;
 
 /// Traces, with what is written for them and how the run ends.
-pub const TRACES: [(&str, &str, Ending); 38] = [
+pub static TRACES: [Row; 38] = [
     ("[]", "", REPLAYED),
     (
         r#"[["buffer",1,16,3,"exclusive",["dedicated",1]],["semaphore",2,0],["submit",0,[[[],[["fill",1,0,16,67305985],["barrier",[[4096,4096,16384,8192]],[],[]]],[[2,1,65536]]]]],["wait",[[2,1]]],["map",1],["read",1,0,4]]"#,
@@ -193,7 +196,7 @@ pub const TRACES: [(&str, &str, Ending); 38] = [
 ];
 
 /// Traces of memory objects, host writes, updates and copies, with what is written and how they end.
-pub const UPLOADS: [(&str, &str, Ending); 14] = [
+pub static UPLOADS: [Row; 14] = [
     (
         r#"[["memory",1,1,64],["buffer",2,16,3,"exclusive",["memory",1,0]],["map",2],["map",2]]"#,
         "refused 3 MAP_STATE\n",
@@ -268,7 +271,7 @@ pub const UPLOADS: [(&str, &str, Ending); 14] = [
 
 /// Traces of memory that the host reaches through a cache, of dependencies on parts of buffers, and of
 /// ownership transfers.
-pub const CACHES: [(&str, &str, Ending); 12] = [
+pub static CACHES: [Row; 12] = [
     (
         r#"[["buffer",1,16,1,"exclusive",["dedicated",2]],["buffer",2,16,2,"exclusive",["dedicated",1]],["semaphore",3,0],["map",1],["write",1,0,"0a0b0c0d"],["submit",0,[[[],[["copy",1,2,[[0,0,4]]],["barrier",[[4096,4096,16384,8192]],[],[]]],[[3,1,65536]]]]],["wait",[[3,1]]],["map",2],["read",2,0,4]]"#,
         "refused 5.0.0 HAZARD_RAW\n",
@@ -332,7 +335,7 @@ pub const CACHES: [(&str, &str, Ending); 12] = [
 ];
 
 /// Texts that are no trace, or none yet.
-pub const NO_TRACES: [&str; 57] = [
+pub static NO_TRACES: [&str; 57] = [
     r#"[["image",1,"R8",8,8,1,1,"optimal",3,"exclusive",["dedicated",0]]]"#,
     r#"[["submit",0,[[[],[["clear",1,7,[0,0,0],[[0,1,0,1]]]],[]]]]]"#,
     r#"[["submit",0,[[[],[["barrier",[],[],[[0,0,4096,4096,0,0,2,0,7,0,1,0,1]]]],[]]]]]"#,
