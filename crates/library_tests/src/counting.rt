@@ -8,6 +8,7 @@ pub struct Counting {
 }
 
 impl Counting {
+    /// One that was never asked.
     pub fn new() -> Counting {
         Counting {
             asked: 0,
