@@ -1,23 +1,27 @@
 -- The pieces left of a command, as flags and their sums.
-use Rattle.std.proofs.Common.{zero, suc, ◌≡◌, ◌<◌, ◌≤◌, ◌+◌, ◌-◌, ◌*◌, ◌/◌, ◌%◌, ℕ, List, [], ◌∷◌, ◌++◌, length, refl, ap, ◌∙◌, sym, arith, get_or, set, Bool, true, false, Some, ◌≢◌}
-use Rattle.std.specs.Prelude.{take, sum, slice_get, replicate, count_by, Contains, Option, None, Box, filter, not, ◌==◌}
-use Rattle.std.specs.List.{range_with_len}
-use Rattle.std.proofs.lemmas.List.{length-replicate, length_push, length-set, set_at, get_or_at, replicate-append-replicate}
-use Rattle.std.proofs.lemmas.List.Sums.{count_by-le-length}
+use Rattle.std.proofs.Common.{zero, suc, ◌≡◌, ◌<◌, ◌≤◌, ◌+◌, ◌-◌, ◌*◌, ◌/◌, ◌%◌, ℕ, List, [], ◌∷◌, ◌++◌, length, refl, ap, ◌∙◌, sym, arith, get_or, set, Bool, true, false, Some, inl, inr}
+use Rattle.std.specs.Prelude.{take, sum, min, slice_get, replicate, count_by, Contains, Option, None, Box, filter, not, ◌==◌}
+use Rattle.std.specs.List.{range_with_len, sum_by}
+use Rattle.std.proofs.lemmas.List.{length-replicate, length_push, set_at, get_or_at, take_all, take-append-le, take-replicate}
+use Rattle.std.proofs.lemmas.List.Sums.{sum_by_push}
+use Rattle.std.proofs.lemmas.List.Folds.{sum_by-replicate}
+use Rattle.std.proofs.lemmas.Bool.{cases_lt}
+use Rattle.std.proofs.Math.Seq.{take-length}
 use Rattle.std.proofs.lemmas.Option.{slice_get-get_or}
 use Rattle.vk_sync.specs.Inner.Places.{places, one_if, is_so}
 use Rattle.std.specs.Global.{Global}
 use Rattle.std.proofs.lemmas.List.FromFn.{length-range_with_len}
 use Rattle.vk_sync.specs.Inner.Left.{all_left, IsCounted}
 use Rattle.vk_sync.specs.Inner.Sums.{AreSumsOf}
-use Rattle.vk_sync.proofs.SumLemmas.{sums_change, sums_push, sums_cover, sum_of_sums, at_most_sum, not_all}
-use Rattle.vk_sync.proofs.PlaceLemmas.{length-places, has_command, HasCommand, place_of, places_all}
+use Rattle.vk_sync.proofs.SumLemmas.{sums_change, sum_of_sums, at_most_sum, not_all}
+use Rattle.vk_sync.proofs.PlaceLemmas.{length-places, has_command, HasCommand, place_of}
 
--- So many flags have been set, with their sums.
-pub record IsMade (count : ℕ) (flags : List Bool) (groups : List ℕ) : Type 0 where
-  pub flags_are : flags ≡ replicate count true
-  pub sums_are : AreSumsOf one_if groups flags
-  pub groups_are : length groups ≡ (count + 63) / 64
+-- So many pieces of all have been counted, by 64.
+pub record IsCountedTo (count counted : ℕ) (groups : List ℕ) : Type 0 where
+  pub upto : (n : ℕ) → sum (take n groups) ≡ min (64 * n) counted
+  pub groups_are : length groups ≡ (counted + 63) / 64
+  pub within : counted ≤ count
+  pub whole : counted < count → counted % 64 ≡ 0
 
 -- How far a search for a piece has come.
 pub record IsSought (flags : List Bool) (place piece rest : ℕ) : Type 0 where
@@ -48,50 +52,54 @@ sums_less flags groups piece s lt e =
     let some : 1 ≤ get_or groups (piece / 64) 0 = omega arith in
     (some, sums_change one_if groups flags s piece (get_or groups (piece / 64) 0 - 1) false false 0 1 lt (omega arith) (omega arith))
 
--- So many flags have been set, and there is a sum for one more.
-pub record IsCovered (count : ℕ) (flags : List Bool) (groups : List ℕ) : Type 0 where
-  pub flags_are : flags ≡ replicate count true
-  pub sums_are : AreSumsOf one_if groups flags
-  pub groups_are : length groups ≡ (count + 64) / 64
-
--- No sum is wanting.
-pub covered_old : (count : ℕ) (flags : List Bool) (groups groups' : List ℕ) → IsMade count flags groups → count % 64 ≢ 0 → groups' ≡ groups → IsCovered count flags groups'
-covered_old count flags groups groups' m some e = record {
-  flags_are = m.flags_are;
-  sums_are = rw e m.sums_are;
-  groups_are = let n = m.groups_are in rw e (omega arith);
-}
-
--- One more sum.
-pub covered_new : (count : ℕ) (flags : List Bool) (groups groups' : List ℕ) → IsMade count flags groups → count % 64 ≡ 0 → groups' ≡ groups ++ 0 ∷ [] → IsCovered count flags groups'
-covered_new count flags groups groups' m none e =
+-- What has been counted is the sum of the groups.
+pub counted_sum : (count counted : ℕ) (groups : List ℕ) → IsCountedTo count counted groups → sum groups ≡ counted
+counted_sum count counted groups m =
     let n = m.groups_are in
-    let len : length flags ≡ count = ap length m.flags_are ∙ length-replicate count true in
+    omega (arith, ap sum (take-length groups), m.upto (length groups))
+
+-- The pieces of one more group.
+pub counted_more : (count counted more : ℕ) (groups groups' : List ℕ) → IsCountedTo count counted groups → counted < count → more ≡ min (count - counted) 64 → groups' ≡ set (groups ++ 0 ∷ []) (counted / 64) (get_or (groups ++ 0 ∷ []) (counted / 64) 0 + more) → IsCountedTo count (counted + more) groups'
+counted_more count counted more groups groups' m lt e changed =
+    let g = length groups in
+    let n = m.groups_are in
+    let w = m.whole lt in
+    let at : counted / 64 ≡ g = omega arith in
+    let was : get_or (groups ++ 0 ∷ []) (counted / 64) 0 ≡ 0 = get_or_at groups 0 [] 0 (counted / 64) (sym at) in
+    let one : get_or (groups ++ 0 ∷ []) (counted / 64) 0 + more ≡ more = omega arith in
+    let now : groups' ≡ groups ++ more ∷ [] = changed ∙ ap (set (groups ++ 0 ∷ []) (counted / 64)) one ∙ set_at groups 0 [] more (counted / 64) (sym at) in
+    let len : length groups' ≡ g + 1 = ap length now ∙ length_push groups more in
+    let all : sum groups' ≡ sum groups + more = ap sum now ∙ sum_by_push (λ (x : ℕ). x) groups more in
     record {
-      flags_are = m.flags_are;
-      sums_are = rw e (sums_cover one_if groups flags m.sums_are (omega arith));
-      groups_are = rw e (omega (arith, length_push groups 0));
+      upto = λ k. elim (cases_lt g k) [
+        | inl h ↦ omega (arith, ap sum (take_all k groups' (omega (arith, h, len))), all, counted_sum count counted groups m, h)
+        | inr h ↦ omega (arith, ap (λ (xs : List ℕ). sum (take k xs)) now, ap sum (take-append-le k groups (more ∷ []) h), m.upto k, h)
+      ];
+      groups_are = omega arith;
+      within = omega arith;
+      whole = λ rest. omega arith;
     }
 
--- One more piece: its sum and its flag.
-pub made_more : (count : ℕ) (flags flags' : List Bool) (groups groups' : List ℕ) → IsCovered count flags groups → flags' ≡ flags ++ true ∷ [] → groups' ≡ set groups (count / 64) (get_or groups (count / 64) 0 + 1) → IsMade (count + 1) flags' groups'
-made_more count flags flags' groups groups' m ef eg =
-    let e = m.flags_are in
-    let s = m.sums_are in
+-- The groups are the sums of the flags when all pieces have been counted.
+pub counted_all : (count counted : ℕ) (groups : List ℕ) → IsCountedTo count counted groups → counted ≡ count → AreSumsOf one_if groups (replicate count true)
+counted_all count counted groups m all =
     let n = m.groups_are in
-    let len : length flags ≡ count = ap length e ∙ length-replicate count true in
-    let spare : length flags < 64 * length groups = omega arith in
-    let zeros = sums_push one_if groups flags s false refl spare in
-    let lt : count < length (flags ++ false ∷ []) = omega (arith, length_push flags false) in
-    let was : get_or (flags ++ false ∷ []) count false ≡ false = get_or_at flags false [] false count len in
-    let none : one_if (get_or (flags ++ false ∷ []) count false) ≡ 0 = rw was refl in
-    let more = sums_change one_if groups (flags ++ false ∷ []) zeros count (get_or groups (count / 64) 0 + 1) true false 1 0 lt (omega arith) (omega arith) in
-    let at_end : set (flags ++ false ∷ []) count true ≡ flags ++ true ∷ [] = set_at flags false [] true count len in
+    let len = length-replicate count true in
     record {
-      flags_are = ef ∙ ap (λ (fs : List Bool). fs ++ true ∷ []) e ∙ replicate-append-replicate count 1 true;
-      sums_are = rw (ef, eg) (rw at_end at more);
-      groups_are = rw eg (omega (arith, length-set groups (count / 64) (get_or groups (count / 64) 0 + 1)));
+      upto = λ k. elim (cases_lt count (64 * k)) [
+        | inl h ↦ omega (arith, m.upto k, ap (sum_by one_if) (take_all (64 * k) (replicate count true) (omega (arith, h, len))), sum_by-replicate one_if count true, h)
+        | inr h ↦ omega (arith, m.upto k, ap (sum_by one_if) (take-replicate (64 * k) count true h), sum_by-replicate one_if (64 * k) true, h)
+      ];
+      covers = omega arith;
+      tight = omega arith;
     }
+
+-- The flags of pieces that are all left.
+pub flags_made : (count len : ℕ) (was flags : List Bool) → was ≡ [] → len ≡ 0 → flags ≡ take count was ++ replicate (count - len) true → flags ≡ replicate count true
+flags_made count len was flags none nought e =
+    let front : take count was ≡ [] = ap (take count) none ∙ take_all count [] (omega arith) in
+    let rest : count - len ≡ count = omega arith in
+    e ∙ rw (front, rest) refl
 
 -- The piece at which a search ends.
 pub found_piece : (flags : List Bool) (place piece rest : ℕ) → IsSought flags place piece rest → rest ≡ 0 → (piece < length flags → get_or flags piece false ≡ true) → slice_get (places is_so 0 flags) place ≡ Some piece
@@ -102,16 +110,6 @@ found_piece flags place piece rest s none set =
     let e : count_by is_so (take piece flags) ≡ place = omega arith in
     let shift : 0 + piece ≡ piece = omega arith in
     rw (← e) (place_of is_so 0 piece flags false lt (set lt) ∙ ap Some shift)
-
--- The view of the flags that were set.
-pub made_view : (flags : List Bool) (groups : List ℕ) (count : ℕ) → IsMade count flags groups → places is_so 0 flags ≡ range_with_len 0 count
-made_view flags groups count m = ap (places is_so 0) m.flags_are ∙ places_all 0 count
-
--- The sum of the flags that were set.
-pub covered_sum : (count : ℕ) (flags : List Bool) (groups : List ℕ) → IsCovered count flags groups → sum groups ≤ count
-covered_sum count flags groups m =
-    let len : length flags ≡ count = ap length m.flags_are ∙ length-replicate count true in
-    omega (arith, sum_of_sums one_if groups flags m.sums_are, count_by-le-length is_so flags)
 
 -- The count is that of the pieces left.
 pub counted_len : (count : ℕ) (many : Option (Box (List ℕ) Global)) → IsCounted count many → count ≡ length (all_left count many)

@@ -8,7 +8,7 @@ use Rattle.std.proofs.lemmas.Option.{slice_get_within, get_or_from_slice_get}
 use Rattle.std.proofs.lemmas.Bool.{cases_lt, lt-ltb}
 use Rattle.vk_sync.specs.declared.board.Command.{Command}
 use Rattle.vk_sync.specs.Inner.Places.{one_if}
-use Rattle.vk_sync.specs.Inner.Fronts.{HasCommand, IsSound, IsLoose, IsWithin, IsDone}
+use Rattle.vk_sync.specs.Inner.Fronts.{HasCommand, IsSound, IsLoose, IsWithin, IsDone, AreFronts}
 use Rattle.vk_sync.specs.declared.ready.Piece.{Piece}
 use Rattle.vk_sync.specs.Ready.{count_on, after_piece, with_change, without}
 use Rattle.vk_sync.proofs.SumLemmas.{sum_past, sum_within}
@@ -129,6 +129,20 @@ module _ (cs : List Command) (p k i : ℕ) (c : Command) (left : List ℕ) (at_i
       | inl h ↦ done_are q lt j d h.1
       | inr same ↦ absurd (ne same.queue)
     ]
+
+    -- Where more of its pieces are left, no queue can move on.
+    pub ran_on : AreFronts cs lines done free counts → (n : ℕ) → k < get_or free p 0 → length left + 1 ≡ length c.left → n + 1 ≡ get_or counts i 0 → 0 < length left → AreFronts later lines done free (set counts i n)
+    ran_on fronts n is_free one_less one_less' some = record {
+      loose = ran fronts.loose n is_free one_less one_less';
+      done_are = λ q lt j d s. elim (stays q (get_or done q 0) j d s) [
+        | inl h ↦ fronts.done_are q lt j d h.1
+        | inr same ↦ λ none. let pieces = ap (λ (x : Command). x.left) same.is in absurd (omega (arith, some, ap length (sym pieces ∙ none)))
+      ];
+      free_are = λ q lt j d s. elim (stays q (get_or free q 0) j d s) [
+        | inl h ↦ fronts.free_are q lt j d h.1
+        | inr same ↦ absurd (omega (arith, is_free, same.place, ap (λ (x : ℕ). get_or free x 0) same.queue))
+      ];
+    }
 
 -- The pieces of a command that waits for nothing more are counted.
 pub counted_of : (cs : List Command) (lines : List (List ℕ)) (done free counts : List ℕ) (p k i : ℕ) (c : Command) → IsLoose cs lines done free counts → HasCommand cs p k i c → k < get_or free p 0 → get_or counts i 0 ≡ length c.left

@@ -1,10 +1,10 @@
 -- Sums over 64 elements in a row, and what a change of one element makes of them.
-use Rattle.std.proofs.Common.{◌≡◌, ◌<◌, ◌≤◌, ◌+◌, ◌*◌, ◌/◌, ℕ, List, [], ◌∷◌, ◌++◌, length, refl, ap, ◌∙◌, sym, inl, inr, arith, get_or, set}
+use Rattle.std.proofs.Common.{◌≡◌, ◌<◌, ◌≤◌, ◌+◌, ◌*◌, ◌/◌, ℕ, List, length, ap, ◌∙◌, sym, inl, inr, arith, get_or, set}
 use Rattle.std.specs.Prelude.{take, sum, min}
 use Rattle.std.specs.List.{sum_by}
 use Rattle.std.proofs.Math.Seq.{take-set-lt, take-length}
-use Rattle.std.proofs.lemmas.List.{take-set-le, take_all, get_or-take, length-set, length-take, take-append-le, length_push, take-take}
-use Rattle.std.proofs.lemmas.List.Sums.{sum_by-set, sum_by_more, sum_by-take-le, sum_by_push}
+use Rattle.std.proofs.lemmas.List.{take-set-le, take_all, get_or-take, length-set, length-take, take-take}
+use Rattle.std.proofs.lemmas.List.Sums.{sum_by-set, sum_by_more, sum_by-take-le}
 use Rattle.std.proofs.lemmas.Bool.{cases_lt}
 use Rattle.vk_sync.specs.Inner.Sums.{AreSumsOf, IsTree}
 
@@ -29,11 +29,11 @@ module _ {A : Type 0} (f : A → ℕ) where
   pub not_all : (xs : List A) (n : ℕ) → sum_by f (take n xs) < sum_by f xs → n < length xs
   not_all xs n lt = elim (cases_lt n (length xs)) [ inl h ↦ h | inr h ↦ absurd (omega (arith, ap (sum_by f) (take_all n xs h))) ]
 
-  -- A zero at the end changes no part's sum.
-  pub sum_zero : (xs : List A) (n : ℕ) (y : A) → f y ≡ 0 → sum_by f (take n (xs ++ y ∷ [])) ≡ sum_by f (take n xs)
-  sum_zero xs n y e = elim (cases_lt (length xs) n) [
-    | inl h ↦ ap (sum_by f) (take_all n (xs ++ y ∷ []) (omega (arith, length_push xs y))) ∙ sum_by_push f xs y ∙ (let le : sum_by f xs + f y ≡ sum_by f xs = omega arith in le) ∙ sym (ap (sum_by f) (take_all n xs (omega (arith, h))))
-    | inr h ↦ ap (sum_by f) (take-append-le n xs (y ∷ []) h)
+  -- Where the elements before one add up to nothing, they still do where one of them all gets less.
+  pub zeros_less : (xs : List A) (first i : ℕ) (y d : A) → i < length xs → f y ≤ f (get_or xs i d) → sum_by f (take first xs) ≡ 0 → sum_by f (take first (set xs i y)) ≡ 0
+  zeros_less xs first i y d there less zeros = elim (cases_lt i first) [
+    | inl lt ↦ omega (arith, sum_within xs first i y d lt there)
+    | inr le ↦ sum_past xs first i y le ∙ zeros
   ]
 
   module _ (sums : List ℕ) (xs : List A) (s : AreSumsOf f sums xs) where
@@ -79,22 +79,6 @@ module _ {A : Type 0} (f : A → ℕ) where
           tight = omega (arith, length-set xs i y, length-set sums g u);
         }
 
-    -- A zero at the end, for which there is a sum.
-    pub sums_push : (y : A) → f y ≡ 0 → length xs < 64 * length sums → AreSumsOf f sums (xs ++ y ∷ [])
-    sums_push y e lt = let le = s.tight in record {
-      upto = λ n. s.upto n ∙ sym (sum_zero xs (64 * n) y e);
-      covers = omega (arith, length_push xs y);
-      tight = omega (arith, length_push xs y);
-    }
-
--- One more sum, of nothing, where there is none spare.
-pub sums_cover : {A : Type 0} (f : A → ℕ) (sums : List ℕ) (xs : List A) → AreSumsOf f sums xs → 64 * length sums ≤ length xs → AreSumsOf f (sums ++ 0 ∷ []) xs
-sums_cover f sums xs s le = let more = s.covers in record {
-  upto = λ n. sum_zero (λ (x : ℕ). x) sums n 0 refl ∙ s.upto n;
-  covers = omega (arith, length_push sums 0);
-  tight = omega (arith, length_push sums 0);
-}
-
 -- A number and the three sums that it is in change by as much.
 pub tree_changes : (leaves groups blocks : List ℕ) (total leaf x y z total' more less : ℕ) → IsTree leaves groups blocks total → leaf < length leaves → x + less ≡ get_or leaves leaf 0 + more → y + less ≡ get_or groups (leaf / 64) 0 + more → z + less ≡ get_or blocks (leaf / 64 / 64) 0 + more → total' + less ≡ total + more → IsTree (set leaves leaf x) (set groups (leaf / 64) y) (set blocks (leaf / 64 / 64) z) total'
 tree_changes leaves groups blocks total leaf x y z total' more less t lt ex ey ez et =
@@ -125,12 +109,3 @@ pub zeros_before : (xs : List ℕ) (first leaf y : ℕ) → sum (take first xs) 
 zeros_before xs first leaf y zeros =
     let id = λ (x : ℕ). x in
     omega (arith, sum_past id xs (min first leaf) leaf y (omega arith), sum_grows id xs (min first leaf) first (omega arith))
-
--- They stay so where a number gets less.
-pub zeros_less : (xs : List ℕ) (first leaf y : ℕ) → leaf < length xs → y ≤ get_or xs leaf 0 → sum (take first xs) ≡ 0 → sum (take first (set xs leaf y)) ≡ 0
-zeros_less xs first leaf y there less zeros =
-    let id = λ (x : ℕ). x in
-    elim (cases_lt leaf first) [
-      | inl lt ↦ omega (arith, sum_within id xs first leaf y 0 lt there)
-      | inr le ↦ sum_past id xs first leaf y le ∙ zeros
-    ]

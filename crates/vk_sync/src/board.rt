@@ -76,8 +76,13 @@ impl Board {
         let command = &mut self.commands[piece.command];
         let queue = command.queue as usize;
         command.left.remove(piece.index);
+        let left = command.left.len();
         self.counts.subtract(piece.command, 1);
         self.counts.skip_zero();
+        // A queue moves on only where a command is finished.
+        if left > 0 {
+            return;
+        }
         self.settle(queue);
     }
 

@@ -13,10 +13,12 @@ pub(crate) struct PieceFlags {
     flags: Vec<bool>,
     /// How many are left, by 64 pieces.
     groups: SumTree,
+    /// None before this one is left.
+    first: usize,
 }
 
 impl Model for PieceFlags {
-    ghost use Rattle.std.specs.Prelude.{List, ℕ};
+    ghost use Rattle.std.specs.Prelude.{List, ℕ, ◌≡◌, take, count_by};
     ghost use Rattle.vk_sync.specs.Inner.Sums.{AreSumsOf};
     ghost use Rattle.vk_sync.specs.Inner.Places.{places, one_if, is_so};
 
@@ -24,7 +26,8 @@ impl Model for PieceFlags {
 
     ghost view = { λ s. places is_so 0 s.flags.items };
 
-    ghost invariant = { λ s. AreSumsOf one_if s.groups s.flags.items };
+    ghost invariant = { λ s. AreSumsOf one_if s.groups s.flags.items
+        × (count_by is_so (take s.first s.flags.items) ≡ 0) };
 }
 
 impl PieceFlags {
@@ -32,16 +35,21 @@ impl PieceFlags {
     pub(crate) fn all(alloc: Global, count: u64) -> Result<PieceFlags, AllocError>
         ensures { IfOk result (λ left. left ≡ range_with_len 0 count) }
     {
-        let mut groups = SumTree::new(alloc);
         let mut flags = Vec::new(alloc);
-        for piece in 0..count as usize {
-            if piece % FANOUT == 0 {
-                groups.push_zero()?;
-            }
-            groups.add(piece / FANOUT, 1);
-            flags.push(true)?;
+        flags.resize(count as usize, true)?;
+        let mut groups = SumTree::new(alloc);
+        let mut counted = 0;
+        while counted < count {
+            let more = (count - counted).min(FANOUT as u64);
+            groups.push_zero()?;
+            groups.add(counted as usize / FANOUT, more);
+            counted += more;
         }
-        Ok(PieceFlags { flags, groups })
+        Ok(PieceFlags {
+            flags,
+            groups,
+            first: 0,
+        })
     }
 
     /// How many pieces there are.
@@ -56,6 +64,9 @@ impl PieceFlags {
         requires { place < length self.now }
         ensures { slice_get self.now place ≡ Some result }
     {
+        if place == 0 && self.first < self.flags.len() && self.flags[self.first] {
+            return self.first as u64;
+        }
         let group = self.groups.find(place);
         let mut piece = group.leaf * FANOUT;
         let mut rest = group.rest;
@@ -77,5 +88,15 @@ impl PieceFlags {
         let piece = piece as usize;
         self.flags[piece] = false;
         self.groups.subtract(piece / FANOUT, 1);
+        self.skip_taken();
+    }
+
+    /// Where none is left up to and with the first one looked at, searches begin after it.
+    fn skip_taken(&mut self)
+        ensures { self.new ≡ self.old }
+    {
+        if self.first < self.flags.len() && !self.flags[self.first] {
+            self.first += 1;
+        }
     }
 }

@@ -3,7 +3,7 @@ use Rattle.std.proofs.lemmas.Option.{slice_get_within}
 use Rattle.vk_sync.specs.declared.board.Command.{Command}
 use Rattle.vk_sync.proofs.FrontLemmas.{read_command}
 use Rattle.vk_sync.proofs.ReadyLemmas.{IsReady, ready_piece}
-use Rattle.vk_sync.proofs.RunLemmas.{ran, ran_done, counted_of, after_at}
+use Rattle.vk_sync.proofs.RunLemmas.{ran, ran_on, ran_done, counted_of, after_at}
 use Rattle.vk_sync.proofs.board.Board.finish.Goals as goal
 
 pub index_mut-command-requires : goal.index_mut-command-requires
@@ -104,3 +104,30 @@ returns-clause-commands c =
     let read = read_command cs _ _ piece.command found.0 now found.1.has_command c.index_mut-command.ensures.value in
     let r : IsReady cs b.lines b.done b.free b.counts fronts piece now = subst (λ (x : Command). IsReady cs b.lines b.done b.free b.counts fronts piece x) read found.1 in
     ap (λ (v : _). v.items) c.settle.ensures.commands ∙ after_at cs piece now c.remove.new.self r.has_command.is c.remove.ensures.others
+
+pub returns-then-left-gt0-clause-board : goal.returns-then-left-gt0-clause-board
+returns-then-left-gt0-clause-board c =
+    let b = c.args.self.now in
+    let cs = b.commands.items in
+    let piece = c.args.piece in
+    let fronts = c.requires.board in
+    let found = ready_piece cs b.lines b.done b.free b.counts fronts piece c.requires.ready in
+    let now = c.index_mut-command.result.now in
+    let read = read_command cs _ _ piece.command found.0 now found.1.has_command c.index_mut-command.ensures.value in
+    let r : IsReady cs b.lines b.done b.free b.counts fronts piece now = subst (λ (x : Command). IsReady cs b.lines b.done b.free b.counts fronts piece x) read found.1 in
+    let counted = counted_of cs b.lines b.done b.free b.counts _ _ piece.command now fronts.loose r.has_command r.free_is in
+    let some = r.has.1 in
+    let n = get_or b.counts piece.command 0 - 1 in
+    rw (c.skip_zero.ensures ∙ c.subtract.ensures) (ran_on cs now.queue _ piece.command now c.remove.new.self r.has_command b.lines b.done b.free b.counts fronts n r.free_is c.remove.ensures.len (omega (arith, counted)) (omega arith))
+
+pub returns-then-left-gt0-clause-commands : goal.returns-then-left-gt0-clause-commands
+returns-then-left-gt0-clause-commands c =
+    let b = c.args.self.now in
+    let cs = b.commands.items in
+    let piece = c.args.piece in
+    let fronts = c.requires.board in
+    let found = ready_piece cs b.lines b.done b.free b.counts fronts piece c.requires.ready in
+    let now = c.index_mut-command.result.now in
+    let read = read_command cs _ _ piece.command found.0 now found.1.has_command c.index_mut-command.ensures.value in
+    let r : IsReady cs b.lines b.done b.free b.counts fronts piece now = subst (λ (x : Command). IsReady cs b.lines b.done b.free b.counts fronts piece x) read found.1 in
+    after_at cs piece now c.remove.new.self r.has_command.is c.remove.ensures.others

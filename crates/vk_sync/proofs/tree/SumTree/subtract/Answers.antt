@@ -49,4 +49,4 @@ invariant_of-self c =
     let ly = in_group leaves groups blocks c.self.inside.total leaf t lt in
     let lz = in_block leaves groups blocks c.self.inside.total leaf t lt in
     let lw = get_or-le-sum_by id leaves leaf 0 lt in
-    (tree_changes leaves groups blocks c.self.inside.total leaf _ _ _ _ 0 c.args.amount t lt (omega arith) (omega arith) (omega arith) (omega (arith, t.all)), zeros_less leaves c.self.inside.first leaf _ lt (omega arith) c.self.invariant.1)
+    (tree_changes leaves groups blocks c.self.inside.total leaf _ _ _ _ 0 c.args.amount t lt (omega arith) (omega arith) (omega arith) (omega (arith, t.all)), zeros_less id leaves c.self.inside.first leaf _ 0 lt (omega arith) c.self.invariant.1)
