@@ -1,5 +1,5 @@
 -- The pieces that are ready are those that are counted.
-use Rattle.std.proofs.Common.{◌≡◌, ◌<◌, ◌≤◌, ◌+◌, ℕ, List, [], length, refl, ap, ◌∙◌, sym, inl, inr, arith, get_or, Bool, true, false, Some, cond, ◌==◌, not, ◌||◌}
+use Rattle.std.proofs.Common.{◌≡◌, ◌<◌, ◌≤◌, ◌+◌, ℕ, List, [], length, refl, ap, ◌∙◌, sym, subst, inl, inr, arith, get_or, Bool, true, false, Some, cond, ◌==◌, not, ◌||◌}
 use Rattle.std.specs.Prelude.{take, slice_get, nat_lt, sum, map, Contains}
 use Rattle.std.specs.List.{flat_map, enumerate_from}
 use Rattle.std.proofs.lemmas.List.{length-map, take-map}
@@ -12,7 +12,7 @@ use Rattle.vk_sync.specs.declared.board.Command.{Command}
 use Rattle.vk_sync.specs.declared.ready.Piece.{Piece}
 use Rattle.vk_sync.specs.Inner.Fronts.{HasCommand, IsWithin, AreFronts}
 use Rattle.vk_sync.specs.Ready.{count_on, is_among, is_met, pieces_of, ready}
-use Rattle.vk_sync.proofs.FrontLemmas.{command_of, in_order, place_within}
+use Rattle.vk_sync.proofs.FrontLemmas.{command_of, in_order, place_within, read_command}
 use Rattle.vk_sync.proofs.LeftLemmas.{get_of}
 use Rattle.vk_sync.proofs.ChangeLemmas.{get_flat, flat_at, get_mapped, mapped_get, numbers_given, all_pass, pass_at, is_nothing, get_enumerated, enumerated_get}
 
@@ -151,3 +151,10 @@ module _ (cs : List Command) (lines : List (List ℕ)) (done free counts : List 
       by_test : (b : Bool) (ps : List Piece) (j : ℕ) → slice_get (cond b ps []) j ≡ Some piece → (b ≡ true) × (slice_get ps j ≡ Some piece)
       by_test true ps j e = (refl, e)
       by_test false ps j e = cc
+
+  -- The command that is read at the number of a ready piece is the one that the piece is of.
+  pub read_ready : (piece : Piece) → Contains (ready cs) piece → (now : Command) → now ≡ get_or cs piece.command now → IsReady piece now
+  read_ready piece has now is =
+      let found = ready_piece piece has in
+      let read = read_command cs _ _ piece.command found.0 now found.1.has_command is in
+      subst (λ (c : Command). IsReady piece c) read found.1

@@ -1,8 +1,6 @@
-use Rattle.std.proofs.Common.{arith, ◌<◌, ◌∙◌, ap, subst, length, get_or, ◌-◌}
+use Rattle.std.proofs.Common.{arith, ◌<◌, ◌∙◌, ap, length, get_or, ◌-◌}
 use Rattle.std.proofs.lemmas.Option.{slice_get_within}
-use Rattle.vk_sync.specs.declared.board.Command.{Command}
-use Rattle.vk_sync.proofs.FrontLemmas.{read_command}
-use Rattle.vk_sync.proofs.ReadyLemmas.{IsReady, ready_piece}
+use Rattle.vk_sync.proofs.ReadyLemmas.{ready_piece, read_ready}
 use Rattle.vk_sync.proofs.RunLemmas.{ran, ran_on, ran_done, counted_of, after_at}
 use Rattle.vk_sync.proofs.board.Board.finish.Goals as goal
 
@@ -22,10 +20,8 @@ remove-requires c =
     let cs = b.commands.items in
     let piece = c.args.piece in
     let fronts = c.requires.board in
-    let found = ready_piece cs b.lines b.done b.free b.counts fronts piece c.requires.ready in
     let now = c.index_mut-command.result.now in
-    let read = read_command cs _ _ piece.command found.0 now found.1.has_command c.index_mut-command.ensures.value in
-    let r : IsReady cs b.lines b.done b.free b.counts fronts piece now = subst (λ (x : Command). IsReady cs b.lines b.done b.free b.counts fronts piece x) read found.1 in
+    let r = read_ready cs b.lines b.done b.free b.counts fronts piece c.requires.ready now c.index_mut-command.ensures.value in
     r.has
 
 pub subtract-requires-clause-there : goal.subtract-requires-clause-there
@@ -34,10 +30,8 @@ subtract-requires-clause-there c =
     let cs = b.commands.items in
     let piece = c.args.piece in
     let fronts = c.requires.board in
-    let found = ready_piece cs b.lines b.done b.free b.counts fronts piece c.requires.ready in
     let now = c.index_mut-command.result.now in
-    let read = read_command cs _ _ piece.command found.0 now found.1.has_command c.index_mut-command.ensures.value in
-    let r : IsReady cs b.lines b.done b.free b.counts fronts piece now = subst (λ (x : Command). IsReady cs b.lines b.done b.free b.counts fronts piece x) read found.1 in
+    let r = read_ready cs b.lines b.done b.free b.counts fronts piece c.requires.ready now c.index_mut-command.ensures.value in
     omega (arith, slice_get_within cs piece.command now r.has_command.is, fronts.loose.counts_len)
 
 pub subtract-requires-clause-enough : goal.subtract-requires-clause-enough
@@ -46,10 +40,8 @@ subtract-requires-clause-enough c =
     let cs = b.commands.items in
     let piece = c.args.piece in
     let fronts = c.requires.board in
-    let found = ready_piece cs b.lines b.done b.free b.counts fronts piece c.requires.ready in
     let now = c.index_mut-command.result.now in
-    let read = read_command cs _ _ piece.command found.0 now found.1.has_command c.index_mut-command.ensures.value in
-    let r : IsReady cs b.lines b.done b.free b.counts fronts piece now = subst (λ (x : Command). IsReady cs b.lines b.done b.free b.counts fronts piece x) read found.1 in
+    let r = read_ready cs b.lines b.done b.free b.counts fronts piece c.requires.ready now c.index_mut-command.ensures.value in
     let counted = counted_of cs b.lines b.done b.free b.counts _ _ piece.command now fronts.loose r.has_command r.free_is in
     let some = r.has.1 in
     omega (arith, counted)
@@ -60,10 +52,8 @@ settle-requires-clause-queue c =
     let cs = b.commands.items in
     let piece = c.args.piece in
     let fronts = c.requires.board in
-    let found = ready_piece cs b.lines b.done b.free b.counts fronts piece c.requires.ready in
     let now = c.index_mut-command.result.now in
-    let read = read_command cs _ _ piece.command found.0 now found.1.has_command c.index_mut-command.ensures.value in
-    let r : IsReady cs b.lines b.done b.free b.counts fronts piece now = subst (λ (x : Command). IsReady cs b.lines b.done b.free b.counts fronts piece x) read found.1 in
+    let r = read_ready cs b.lines b.done b.free b.counts fronts piece c.requires.ready now c.index_mut-command.ensures.value in
     fronts.loose.sound.queues piece.command now r.has_command.is
 
 pub settle-requires-clause-loose : goal.settle-requires-clause-loose
@@ -72,10 +62,8 @@ settle-requires-clause-loose c =
     let cs = b.commands.items in
     let piece = c.args.piece in
     let fronts = c.requires.board in
-    let found = ready_piece cs b.lines b.done b.free b.counts fronts piece c.requires.ready in
     let now = c.index_mut-command.result.now in
-    let read = read_command cs _ _ piece.command found.0 now found.1.has_command c.index_mut-command.ensures.value in
-    let r : IsReady cs b.lines b.done b.free b.counts fronts piece now = subst (λ (x : Command). IsReady cs b.lines b.done b.free b.counts fronts piece x) read found.1 in
+    let r = read_ready cs b.lines b.done b.free b.counts fronts piece c.requires.ready now c.index_mut-command.ensures.value in
     let counted = counted_of cs b.lines b.done b.free b.counts _ _ piece.command now fronts.loose r.has_command r.free_is in
     let some = r.has.1 in
     let n = get_or b.counts piece.command 0 - 1 in
@@ -87,10 +75,8 @@ settle-requires-clause-others c =
     let cs = b.commands.items in
     let piece = c.args.piece in
     let fronts = c.requires.board in
-    let found = ready_piece cs b.lines b.done b.free b.counts fronts piece c.requires.ready in
     let now = c.index_mut-command.result.now in
-    let read = read_command cs _ _ piece.command found.0 now found.1.has_command c.index_mut-command.ensures.value in
-    let r : IsReady cs b.lines b.done b.free b.counts fronts piece now = subst (λ (x : Command). IsReady cs b.lines b.done b.free b.counts fronts piece x) read found.1 in
+    let r = read_ready cs b.lines b.done b.free b.counts fronts piece c.requires.ready now c.index_mut-command.ensures.value in
     ran_done cs now.queue _ piece.command now c.remove.new.self r.has_command b.lines b.done b.free b.counts fronts.done_are
 
 pub returns-clause-commands : goal.returns-clause-commands
@@ -99,10 +85,8 @@ returns-clause-commands c =
     let cs = b.commands.items in
     let piece = c.args.piece in
     let fronts = c.requires.board in
-    let found = ready_piece cs b.lines b.done b.free b.counts fronts piece c.requires.ready in
     let now = c.index_mut-command.result.now in
-    let read = read_command cs _ _ piece.command found.0 now found.1.has_command c.index_mut-command.ensures.value in
-    let r : IsReady cs b.lines b.done b.free b.counts fronts piece now = subst (λ (x : Command). IsReady cs b.lines b.done b.free b.counts fronts piece x) read found.1 in
+    let r = read_ready cs b.lines b.done b.free b.counts fronts piece c.requires.ready now c.index_mut-command.ensures.value in
     ap (λ (v : _). v.items) c.settle.ensures.commands ∙ after_at cs piece now c.remove.new.self r.has_command.is c.remove.ensures.others
 
 pub returns-then-left-gt0-clause-board : goal.returns-then-left-gt0-clause-board
@@ -111,10 +95,8 @@ returns-then-left-gt0-clause-board c =
     let cs = b.commands.items in
     let piece = c.args.piece in
     let fronts = c.requires.board in
-    let found = ready_piece cs b.lines b.done b.free b.counts fronts piece c.requires.ready in
     let now = c.index_mut-command.result.now in
-    let read = read_command cs _ _ piece.command found.0 now found.1.has_command c.index_mut-command.ensures.value in
-    let r : IsReady cs b.lines b.done b.free b.counts fronts piece now = subst (λ (x : Command). IsReady cs b.lines b.done b.free b.counts fronts piece x) read found.1 in
+    let r = read_ready cs b.lines b.done b.free b.counts fronts piece c.requires.ready now c.index_mut-command.ensures.value in
     let counted = counted_of cs b.lines b.done b.free b.counts _ _ piece.command now fronts.loose r.has_command r.free_is in
     let some = r.has.1 in
     let n = get_or b.counts piece.command 0 - 1 in
@@ -126,8 +108,6 @@ returns-then-left-gt0-clause-commands c =
     let cs = b.commands.items in
     let piece = c.args.piece in
     let fronts = c.requires.board in
-    let found = ready_piece cs b.lines b.done b.free b.counts fronts piece c.requires.ready in
     let now = c.index_mut-command.result.now in
-    let read = read_command cs _ _ piece.command found.0 now found.1.has_command c.index_mut-command.ensures.value in
-    let r : IsReady cs b.lines b.done b.free b.counts fronts piece now = subst (λ (x : Command). IsReady cs b.lines b.done b.free b.counts fronts piece x) read found.1 in
+    let r = read_ready cs b.lines b.done b.free b.counts fronts piece c.requires.ready now c.index_mut-command.ensures.value in
     after_at cs piece now c.remove.new.self r.has_command.is c.remove.ensures.others
