@@ -140,6 +140,6 @@ fn a_write_by_the_host_is_flushed_before_its_submit(rt: HostRuntime) -> Result<(
     let early = sees_early_flush(rt.alloc(), true)?;
     let late = sees_late_flush(rt.alloc(), true)?;
     let uncached = sees_late_flush(rt.alloc(), false)?;
-    expect(&rt, "sight", (early, late, uncached), (true, false, true));
+    expect(&rt, "visible", (early, late, uncached), (true, false, true));
     Ok(())
 }
