@@ -45,6 +45,10 @@ unsafe impl<A: Allocator + Send> Send for Lease<A> {}
 // A `&` to it holds nothing.
 unsafe impl<A: Allocator> Sync for Lease<A> {}
 
+/// How many bytes of fresh room are written at once. The compiler makes a call of memset of each
+/// such run: those of some kilobytes and more are slow where each page is touched for the first time.
+const RUN: usize = 1024;
+
 /// Writes `byte` into each byte of fresh room.
 unsafe fn fill_room(start: *mut u8, size: usize, byte: u8)
     requires* { sem 𝓛 (room_at (Array byte_row size) start) }
@@ -52,10 +56,13 @@ unsafe fn fill_room(start: *mut u8, size: usize, byte: u8)
 {
     let mut i = 0;
     while i < size {
-        unsafe {
-            *start.add(i) = byte;
+        let end = if size - i < RUN { size } else { i + RUN };
+        while i < end {
+            unsafe {
+                *start.add(i) = byte;
+            }
+            i += 1;
         }
-        i += 1;
     }
 }
 

@@ -145,23 +145,36 @@ fn move_bytes(bytes: &mut [u8], at: usize, to: usize, len: usize)
     }
 }
 
+/// How many words are stored one after another, 4 KiB of them.
+const MOST_STORED: usize = 1024;
+
 /// How many words are copied at once, 8 KiB of them: what is copied stays in a processor's first cache.
 const MOST_COPIED: usize = 2048;
 
-/// Writes the word, little-endian, over each four bytes: what is filled so far, or a front of it, is
-/// copied behind itself.
+/// Writes the word, little-endian, over each four bytes: a front of them is stored, and what is filled
+/// so far, or a front of it, is copied behind itself.
 fn fill_words(out: &mut [u8], words: usize, word: u32)
     requires { length out.old ≡ 4 * words }
     ensures { out.new ≡ repeated words (to_le_bytes w32 word) }
 {
-    if words == 0 {
-        return;
-    }
-    out[..4].copy_from_slice(&word.to_le_bytes());
-    let mut filled = 1;
+    let front = words.min(MOST_STORED);
+    store_words(&mut out[..4 * front], front, word);
+    let mut filled = front;
     while filled < words {
         let more = filled.min(words - filled).min(MOST_COPIED);
         move_bytes(out, 0, 4 * filled, 4 * more);
         filled += more;
+    }
+}
+
+/// Writes the word, little-endian, over each four bytes, one after another: the compiler makes wide
+/// stores of them, which wait for nothing that was written just before.
+fn store_words(out: &mut [u8], words: usize, word: u32)
+    requires { length out.old ≡ 4 * words }
+    ensures { out.new ≡ repeated words (to_le_bytes w32 word) }
+{
+    let bytes = word.to_le_bytes();
+    for i in 0..words {
+        out[4 * i..4 * i + 4].copy_from_slice(&bytes);
     }
 }

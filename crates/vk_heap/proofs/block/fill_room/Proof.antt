@@ -3,19 +3,20 @@ use Rattle.std.proofs.Common.{◌≡◌, ℕ, zero, suc, ◌+◌, ◌-◌, ◌�
 use Rattle.std.proofs.lemmas.List.{length-replicate, replicate-append-replicate}
 use Rattle.std.proofs.raw_atomic.Walks.{proved}
 use Rattle.core.proofs.slots.Bodies.{after}
+use mathlib.Core.WellFounded.{WellFounded}
 use mathlib.Core.WellFounded.InvImage
 use lib.WfN.{lt-wf_rel}
 use seplogic.Ra.Ura.{Ura}
 use base.Fraction.{full_share}
-use base.Logic.{SProp, ent, sep, id⊢}
+use base.Logic.{SProp, ent, sep, via, guard_i, id⊢}
 use base.Fml.{Fml, fat, froom}
-use mir.Syntax.{Ty, ty_int, ty_array}
-use mir.Val.{Val, vunit, vint, vptr}
+use mir.Syntax.{Ty, ty_int, ty_array, int_big, loop}
+use mir.Val.{Val, Fits, vunit, vint, vptr}
 use prog.Wp.{Env, Out, Wp, WpFn, Tables, at_return, after_seq, after_block, after_turn}
 use contract.Running.{tables, tables_of}
 use types.Logic.{Logic, sem}
 use types.Kit.{Item, Sq, any_q, runs, ‵, raw, ◌⊛◌, at_ret, prop, ◌$◌, ◌∵◌, !, qed, by, done, move, drop, keep, use1, use2, split, join, feq_i, fjoin, rewrite, regoal, suffices, group}
-use types.Run.{enter, of_opd, lit, unit_lit, bin, stop, init, assigns_last, first, blocks, branches, skips, jumps, exec, returns, loops, again, Below}
+use types.Run.{Opd, enter, of_opd, lit, unit_lit, bin, stop, init, assigns_last, first, blocks, branches, skips, jumps, exec, returns, loops, again, Below}
 use types.ByLocal.{alloc_all, pass_all, free_all, look_at, get, through, sets, sets_last, env, holding, forget_but, take_at, give_at}
 use denote.Array.{Array}
 use denote.Builtin.{u8, usize}
@@ -70,6 +71,10 @@ module _ {M : Type 1} {𝓤 : Ura M} (𝓛 : Logic 𝓤) (𝓣 : Tables 𝓤 �
       qed 𝓛 (‵ (written n) ∷ []) ∵ feq_i ! ℕ (length (replicate n x)) n (length-replicate n x) $ fjoin ! $
       use1 𝓛 (‵ (part_at (Array u8 n) full_share (replicate n x) b o)) (bytes_whole 𝓛 full_share n (replicate n x) b o) $ done !
 
+  -- how many are written at once
+  run_length : {K : Type 0} {Γ : List (Item 𝓤)} {E : Env 𝓤 H} → Opd K 𝓛 Γ E (int_big w64 1024) (vint w64 1024)
+  run_length = record { go = λ Kt h. via 𝓤 (Kt (vint w64 1024)) h (guard_i 𝓤 (Fits w64 1024) (Kt (vint w64 1024)) (record { fits = lit< tt })) }
+
   -- how many are written
   abbrev Written : Type 0
   Written = (i : ℕ) × (i ≤ n)
@@ -87,21 +92,61 @@ module _ {M : Type 1} {𝓤 : Ura M} (𝓛 : Logic 𝓤) (𝓣 : Tables 𝓤 �
     abbrev Turned : Written → Out → SProp 𝓤
     Turned t = after_turn 𝓤 H (Below 𝓛 Nearer Now t) (after_block 𝓤 H (after_seq 𝓤 H (Wp 𝓤 H 𝓣.C 𝓣.Λ En code.Mir.t-3 (at_return 𝓤 H En Post)) (at_return 𝓤 H En Post)))
 
-    turns : (t : Written) → Sq 𝓛 (Now t) (runs 𝓣.C 𝓣.Λ En code.Mir.turn-1 (any_q (Turned t)))
+    -- a run of them, from what is written before it to its end
+    module _ (t : Written) (e : ℕ) (some : t.0 < e) (inside : e ≤ n) where
+      abbrev InRun : Type 0
+      InRun = (i : ℕ) × (t.0 ≤ i) × (i ≤ e)
+
+      abbrev NearerEnd : InRun → InRun → Type 0
+      NearerEnd r u = e - r.0 < e - u.0
+
+      by_end : WellFounded NearerEnd
+      by_end = InvImage.wf (λ (r : InRun). e - r.0) lt-wf_rel.wf
+
+      abbrev Then : InRun → List (Item 𝓤)
+      Then r = ‵ (written r.0) ∷ ‵ (left r.0) ∷ holding 𝓛 En ((1, vptr b o) ∷ (2, vint w64 n) ∷ (3, vint w8 x) ∷ (4, vint w64 r.0) ∷ (5, vint w64 e) ∷ [])
+
+      abbrev Wrote : InRun → Out → SProp 𝓤
+      Wrote r = after_turn 𝓤 H (Below 𝓛 NearerEnd Then r) (after_block 𝓤 H (Turned t))
+
+      writes : (r : InRun) → Sq 𝓛 (Then r) (runs 𝓣.C 𝓣.Λ En code.Mir.turn-1 (any_q (Wrote r)))
+      unfolding after_turn
+      writes r =
+          let i : ℕ = r.0 in let low : t.0 ≤ i = r.1 in let le : i ≤ e = r.2 in
+          sets ! (bin ! (get ! refl) (get ! refl) tt) refl (tt, tt) $ first ! $ branches ! (get ! refl)
+          (λ less. let lt : i < e = ltb→lt i e less in let next : i + 1 < 2 ^ 64 = omega arith in
+          skips ! $ exec ! 𝓣.C 𝓣.Λ En (after 2 code.Mir.turn-1) (any_q (Wrote r)) $ move ! (1 ∷ []) $
+          use1 𝓛 (‵ (froom byte b (i + o)) ⊛ ‵ (left (suc i))) (one_out i (omega arith)) $ split ! $
+          first ! $ blocks ! $ sets ! (bin ! (get ! refl) (get ! refl) tt) refl (tt, tt) $
+          assigns_last ! (of_opd ! (get ! refl)) (through ! refl (stop !)) (init ! 0 refl (tt, record { fits = is_byte })) $
+          exec ! 𝓣.C 𝓣.Λ En (after 3 code.Mir.turn-1) (any_q (Wrote r)) $
+          sets_last ! (bin ! (get ! refl) (lit ! tt) (record { fits = next })) refl (tt, record { fits = next }) $
+          use1 𝓛 (‵ (part_at u8 full_share x b (i + o))) (uint_in 𝓛 full_share w8 x b (i + o)) $ move ! (2 ∷ 0 ∷ []) $ use2 𝓛 (‵ (written (suc i))) (one_in i) $
+          forget_but ! En (1 ∷ 2 ∷ 3 ∷ 4 ∷ 5 ∷ []) refl $ take_at ! 4 $ rewrite ! 0 (λ (k : ℕ). ‵ (fat full_share (ty_int w64) (l 4) zero (vint w64 k))) (omega arith) refl $ give_at ! 4 $
+          again ! NearerEnd Then r (suc i, omega arith, omega arith) (omega arith))
+          (λ over. let ge : e ≤ i = nltb→le i e over in
+          jumps ! $ forget_but ! En (1 ∷ 2 ∷ 3 ∷ 4 ∷ []) refl $ again ! Nearer Now t (i, omega arith) (omega arith))
+
+      -- all of the run, from its start
+      to_end : Sq 𝓛 (Then (t.0, omega arith, omega (arith, some))) (runs 𝓣.C 𝓣.Λ En (loop code.Mir.turn-1) (any_q (after_block 𝓤 H (Turned t))))
+      to_end = loops ! 𝓣 NearerEnd by_end Then writes (t.0, omega arith, omega (arith, some))
+
+    turns : (t : Written) → Sq 𝓛 (Now t) (runs 𝓣.C 𝓣.Λ En code.Mir.turn-2 (any_q (Turned t)))
     unfolding after_turn
     turns t =
         let i : ℕ = t.0 in let le : i ≤ n = t.1 in
         sets ! (bin ! (get ! refl) (get ! refl) tt) refl (tt, tt) $ first ! $ branches ! (get ! refl)
-        (λ less. let lt : i < n = ltb→lt i n less in let next : i + 1 < 2 ^ 64 = omega arith in
-        skips ! $ exec ! 𝓣.C 𝓣.Λ En (after 2 code.Mir.turn-1) (any_q (Turned t)) $ move ! (1 ∷ []) $
-        use1 𝓛 (‵ (froom byte b (i + o)) ⊛ ‵ (left (suc i))) (one_out i lt) $ split ! $
-        first ! $ blocks ! $ sets ! (bin ! (get ! refl) (get ! refl) tt) refl (tt, tt) $
-        assigns_last ! (of_opd ! (get ! refl)) (through ! refl (stop !)) (init ! 0 refl (tt, record { fits = is_byte })) $
-        exec ! 𝓣.C 𝓣.Λ En (after 3 code.Mir.turn-1) (any_q (Turned t)) $
-        sets_last ! (bin ! (get ! refl) (lit ! tt) (record { fits = next })) refl (tt, record { fits = next }) $
-        use1 𝓛 (‵ (part_at u8 full_share x b (i + o))) (uint_in 𝓛 full_share w8 x b (i + o)) $ move ! (2 ∷ 0 ∷ []) $ use2 𝓛 (‵ (written (suc i))) (one_in i) $
-        forget_but ! En (1 ∷ 2 ∷ 3 ∷ 4 ∷ []) refl $ take_at ! 4 $ rewrite ! 0 (λ (k : ℕ). ‵ (fat full_share (ty_int w64) (l 4) zero (vint w64 k))) (omega arith) refl $ give_at ! 4 $
-        again ! Nearer Now t (suc i, omega arith) (omega arith))
+        (λ less. let lt : i < n = ltb→lt i n less in
+        skips ! $ exec ! 𝓣.C 𝓣.Λ En (after 2 code.Mir.turn-2) (any_q (Turned t)) $
+        sets ! (bin ! (get ! refl) (get ! refl) le) refl (tt, record { fits = omega arith }) $
+        sets ! (bin ! (get ! refl) run_length tt) refl (tt, tt) $ first ! $ branches ! (get ! refl)
+        (λ last. sets_last ! (of_opd ! (get ! refl)) refl (tt, record { fits = fits }) $ exec ! 𝓣.C 𝓣.Λ En (after 5 code.Mir.turn-2) (any_q (Turned t)) $
+        sets ! (of_opd ! (get ! refl)) refl (tt, record { fits = fits }) $ blocks ! $ forget_but ! En (1 ∷ 2 ∷ 3 ∷ 4 ∷ 5 ∷ []) refl $
+        to_end t n lt (omega arith))
+        (λ more. let low : 1024 ≤ n - i = nltb→le (n - i) 1024 more in let fits_so : i + 1024 < 2 ^ 64 = omega arith in
+        sets_last ! (bin ! (get ! refl) run_length (record { fits = fits_so })) refl (tt, record { fits = fits_so }) $ exec ! 𝓣.C 𝓣.Λ En (after 5 code.Mir.turn-2) (any_q (Turned t)) $
+        sets ! (of_opd ! (get ! refl)) refl (tt, record { fits = fits_so }) $ blocks ! $ forget_but ! En (1 ∷ 2 ∷ 3 ∷ 4 ∷ 5 ∷ []) refl $
+        to_end t (i + 1024) (omega arith) (omega arith)))
         (λ over. let ge : n ≤ i = nltb→le i n over in let all : i ≡ n = omega arith in
         jumps ! $ exec ! 𝓣.C 𝓣.Λ En code.Mir.t-3 (at_ret En Post) $ rewrite ! 0 (λ (k : ℕ). ‵ (written k)) all refl $
         sets ! (of_opd ! (unit_lit !)) refl (tt, tt) $ returns ! (look_at ! 0 refl) $ free_all ! refl $ keep ! (0 ∷ []) $ by ! exits)
