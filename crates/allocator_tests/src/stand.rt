@@ -13,7 +13,9 @@ use vma_pools::{Allocation, Asked, Home, PoolPlace, Pools};
 /// Pools, over two heaps of 65,536 bytes.
 #[derive(Drop)]
 pub struct Stand {
+    /// The pools.
     pub pools: Pools,
+    /// The memory that their blocks are made of.
     pub memories: Memories,
 }
 

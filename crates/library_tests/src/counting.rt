@@ -3,7 +3,9 @@ use vk_model::Scheduler;
 /// Picks the first, and keeps how often it was asked, and among how many options the last time.
 #[derive(Drop)]
 pub struct Counting {
+    /// How often it was asked.
     pub asked: u64,
+    /// Among how many options the last time.
     pub options: u64,
 }
 
