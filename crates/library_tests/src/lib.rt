@@ -9,6 +9,8 @@ mod device;
 #[cfg(test)]
 mod expect;
 #[cfg(test)]
+mod first_caller;
+#[cfg(test)]
 mod limits;
 #[cfg(test)]
 mod pools;

@@ -3,7 +3,8 @@ use super::expect::expect;
 use std::alloc::Global;
 use std::process::Abort;
 use vk_model::{Config, First, Last, Scheduler, Seeded};
-use vk_trace::{RunError, Watched, run};
+use vk_run::run;
+use vk_trace::{RunError, Watched};
 
 mod image_table;
 mod pool_table;

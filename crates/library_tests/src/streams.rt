@@ -8,7 +8,8 @@ use std::io;
 use std::io::{ErrorKind, Read, Write};
 use std::process::Abort;
 use vk_model::First;
-use vk_trace::{RunError, Watched, run};
+use vk_run::run;
+use vk_trace::{RunError, Watched};
 
 /// Gives its bytes, 16 at most in each read, and an error after some reads.
 #[derive(Drop)]

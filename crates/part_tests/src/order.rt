@@ -5,10 +5,11 @@ ghost use Rattle.vk_model.specs.declared.command.Cmd.{Cmd as AnyCmd};
 ghost use Rattle.vk_model.specs.Sync.Node.{Node};
 ghost use Rattle.vk_model.specs.Sync.Edge.{is_element};
 ghost use Rattle.vk_model.specs.Trace.Point.{Run};
-ghost use Rattle.vk_order.specs.PointViews.{action_of};
+ghost use Rattle.vk_model.specs.Trace.PointViews.{action_of};
 
 use std::alloc::{AllocError, Global};
-use vk_order::{Point, Points};
+use vk_model::Point;
+use vk_order::Points;
 
 mod drawn;
 mod first_path;

@@ -2,8 +2,7 @@ use super::expect::expect;
 use std::alloc::{AllocError, Global};
 use std::process::Abort;
 use std::test::Fail;
-use vk_model::{Batch, Entry, SemaphoreSubmit, Sequence, Stages};
-use vk_order::{Action, Point};
+use vk_model::{Action, Batch, Entry, Point, SemaphoreSubmit, Sequence, Stages};
 use vk_queues::{Waiting, points_after, reference_order};
 
 /// A semaphore with a value, as a list.

@@ -4,10 +4,9 @@ use crate::uses::{has, uses_of};
 use std::alloc::AllocError;
 use vk_edits::InBatch;
 use vk_model::{
-    Accesses, Cmd, Dependency, Element, Entry, ImageElement, Layout, Length, Place, Sequence,
-    Stages,
+    Accesses, Action, Cmd, Dependency, Element, Entry, ImageElement, Layout, Length, Place, Point,
+    Sequence, Stages,
 };
-use vk_order::{Action, Point};
 
 /// No more bytes are made up.
 const MOST: u64 = 65_536;

@@ -6,8 +6,7 @@ use crate::places::memory_of;
 use crate::waits::{held, signal_earlier, signal_for};
 use std::alloc::AllocError;
 use vk_edits::{Change, EditList, InBatch};
-use vk_model::{Batch, Entry, SemaphoreValue, Sequence};
-use vk_order::Action;
+use vk_model::{Action, Batch, Entry, SemaphoreValue, Sequence};
 
 /// Repairs of the end of an object that is in use: the host waits for what uses it; a batch that
 /// waits is signaled first; what lies in it is destroyed before.

@@ -2,8 +2,7 @@ use crate::cases::{Candidates, Case};
 use crate::places::visible;
 use crate::uses::uses_of;
 use std::alloc::AllocError;
-use vk_model::{BufferInfo, Duplicate, Entry, ImageInfo, Usage};
-use vk_order::Action;
+use vk_model::{Action, BufferInfo, Duplicate, Entry, ImageInfo, Usage};
 
 /// A resource is mapped fewer times than this.
 const MOST_MAPS: usize = 6;

@@ -1,7 +1,6 @@
 use crate::cases::{Candidates, Case, place_of};
 use std::alloc::AllocError;
-use vk_model::{Cmd, Dependency, Element, Entry, Sequence};
-use vk_order::Action;
+use vk_model::{Action, Cmd, Dependency, Element, Entry, Sequence};
 
 /// An equal list of elements.
 fn same(case: &Case<'_>, elements: &[Dependency]) -> Result<Sequence<Dependency>, AllocError> {

@@ -1,8 +1,7 @@
 use crate::cases::{Candidates, Case, place_of};
 use std::alloc::AllocError;
 use vk_image_tiles::{level_height, level_width};
-use vk_model::{BufferImageCopy, Cmd, Entry, ImageCopy, ImageInfo, Sequence};
-use vk_order::Action;
+use vk_model::{Action, BufferImageCopy, Cmd, Entry, ImageCopy, ImageInfo, Sequence};
 
 /// A part of a side, a number of levels or of layers.
 #[derive(Clone, Copy)]

@@ -4,8 +4,9 @@ use crate::uses::{Use, uses_of};
 use crate::{host_hazards, stages, transitions};
 use std::alloc::AllocError;
 use vk_edits::{Change, EditList};
-use vk_model::{Accesses, Batch, Cmd, Dependency, Element, Entry, Length, Rule, Sequence, Stages};
-use vk_order::{Action, Point};
+use vk_model::{
+    Accesses, Action, Batch, Cmd, Dependency, Element, Entry, Length, Point, Rule, Sequence, Stages,
+};
 
 /// How many queues there are.
 pub const QUEUES: u32 = 4;

@@ -4,8 +4,7 @@ use crate::orders::{Ordering, host_wait_after};
 use crate::uses::{Use, uses_of, writes};
 use std::alloc::AllocError;
 use vk_edits::EditList;
-use vk_model::{Accesses, Dependency, Entry, Length, Rule, Sequence, Stages};
-use vk_order::Action;
+use vk_model::{Accesses, Action, Dependency, Entry, Length, Rule, Sequence, Stages};
 
 /// Which parts a repair before a point of the host has.
 #[derive(Clone, Copy)]

@@ -1,6 +1,5 @@
 use std::alloc::{AllocError, Global};
-use vk_model::{Cmd, Element, Entry, Place};
-use vk_order::Action;
+use vk_model::{Action, Cmd, Element, Entry, Place};
 
 /// What an id has to be.
 #[derive(Clone, Copy, PartialEq, Eq)]

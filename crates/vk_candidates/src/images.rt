@@ -1,8 +1,7 @@
 use crate::cases::{Candidates, Case, place_of};
 use crate::pieces::one_layout;
 use std::alloc::AllocError;
-use vk_model::{Cmd, Element, Layout, Sequence};
-use vk_order::Action;
+use vk_model::{Action, Cmd, Element, Layout, Sequence};
 
 /// Transitions of some images before the point that keep the contents, in place of those that lose them.
 pub fn kept_contents(

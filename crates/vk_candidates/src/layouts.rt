@@ -3,9 +3,9 @@ use crate::pieces::{Piece, add_pieces, one_layout};
 use crate::sides::{Side, named, named_in, ranges_of};
 use std::alloc::AllocError;
 use vk_model::{
-    Accesses, Cmd, Dependency, Duplicate, Element, Families, ImageElement, Layout, Sequence, Stages,
+    Accesses, Action, Cmd, Dependency, Duplicate, Element, Families, ImageElement, Layout,
+    Sequence, Stages,
 };
-use vk_order::Action;
 
 /// The layout that the point names is the current one, or a transition to it comes right before.
 pub fn layout(case: &Case<'_>, found: &mut Candidates) -> Result<(), AllocError> {

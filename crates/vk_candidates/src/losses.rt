@@ -4,8 +4,7 @@ use crate::orders::{Ordering, order_after};
 use crate::ownership::{Half, Owned, after_command, families_of, half_of, is_exclusive};
 use std::alloc::AllocError;
 use vk_edits::EditList;
-use vk_model::{Cmd, Element, Families, Sequence};
-use vk_order::{Action, Point};
+use vk_model::{Action, Cmd, Element, Families, Point, Sequence};
 
 /// A use by a family of what another one owned.
 #[derive(Clone, Copy)]

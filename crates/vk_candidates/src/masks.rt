@@ -1,8 +1,7 @@
 use crate::cases::{Candidates, Case, place_of};
 use std::alloc::AllocError;
 use vk_edits::Change;
-use vk_model::{Accesses, Cmd, Dependency, Element, SemaphoreSubmit, Sequence, Stages};
-use vk_order::Action;
+use vk_model::{Accesses, Action, Cmd, Dependency, Element, SemaphoreSubmit, Sequence, Stages};
 
 /// The bits of accesses of transfers.
 const TRANSFERS: u32 = 6144;

@@ -1,8 +1,7 @@
 use crate::cases::Case;
 use std::alloc::AllocError;
 use vk_edits::{Change, EditList};
-use vk_model::{Entry, SemaphoreSubmit, SemaphoreValue, Stages};
-use vk_order::{Action, Point};
+use vk_model::{Action, Entry, Point, SemaphoreSubmit, SemaphoreValue, Stages};
 
 /// What orders the refused point after earlier ones.
 #[derive(Clone, Copy, PartialEq, Eq)]

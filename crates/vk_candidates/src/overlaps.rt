@@ -2,8 +2,7 @@ use crate::cases::{Candidates, Case, place_of};
 use crate::hazards::barrier;
 use std::alloc::AllocError;
 use vk_edits::InBatch;
-use vk_model::{Accesses, Cmd, Dependency, Duplicate, Length, Sequence, Stages};
-use vk_order::Action;
+use vk_model::{Accesses, Action, Cmd, Dependency, Duplicate, Length, Sequence, Stages};
 
 /// A command is taken apart into at most so many.
 pub const MOST: usize = 8;

@@ -3,8 +3,9 @@ use crate::halves::{all_of, half, nothing, with_families, written};
 use crate::orders::{Ordering, order_after};
 use crate::ownership::{Half, Owned, families_of, half_of, is_exclusive, owner_of};
 use std::alloc::AllocError;
-use vk_model::{BufferElement, Cmd, Element, Entry, Families, ImageElement, Length, Sequence};
-use vk_order::Action;
+use vk_model::{
+    Action, BufferElement, Cmd, Element, Entry, Families, ImageElement, Length, Sequence,
+};
 
 /// The whole resource in place of a part, or no transfer of ownership.
 pub fn owner_whole(case: &Case<'_>, found: &mut Candidates) -> Result<(), AllocError> {

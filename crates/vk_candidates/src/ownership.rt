@@ -1,8 +1,7 @@
 use crate::cases::{Case, family_of};
 use crate::uses::{has, uses_of};
 use std::alloc::AllocError;
-use vk_model::{Cmd, Element, Entry, Families, Sharing};
-use vk_order::{Action, Point};
+use vk_model::{Action, Cmd, Element, Entry, Families, Point, Sharing};
 
 /// What is known of the owner of a resource.
 #[derive(Clone, Copy)]

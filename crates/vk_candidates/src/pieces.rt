@@ -1,7 +1,6 @@
 use crate::cases::{Case, family_of};
 use std::alloc::AllocError;
-use vk_model::{Cmd, Element, ImageElement, Layout, SubresourceRange};
-use vk_order::Action;
+use vk_model::{Action, Cmd, Element, ImageElement, Layout, SubresourceRange};
 
 /// Layouts are looked up for at most so many levels or layers.
 const MOST: u32 = 32;

@@ -1,8 +1,9 @@
 use crate::cases::{Candidates, Case};
 use crate::entries::replaced;
 use std::alloc::AllocError;
-use vk_model::{BufferInfo, Duplicate, Entry, ImageInfo, MemoryInfo, Place, PoolInfo, PoolKind};
-use vk_order::Action;
+use vk_model::{
+    Action, BufferInfo, Duplicate, Entry, ImageInfo, MemoryInfo, Place, PoolInfo, PoolKind,
+};
 
 /// So many places are tried at most.
 const MOST_STARTS: usize = 36;

@@ -3,10 +3,9 @@ use crate::entries::replaced;
 use crate::uses::uses_of;
 use std::alloc::AllocError;
 use vk_model::{
-    BufferElement, BufferImageCopy, BufferInfo, Cmd, Element, Entry, ImageElement, ImageInfo,
-    Length, Sequence, SubresourceRange,
+    Action, BufferElement, BufferImageCopy, BufferInfo, Cmd, Element, Entry, ImageElement,
+    ImageInfo, Length, Sequence, SubresourceRange,
 };
-use vk_order::Action;
 
 /// Ranges to the end of their buffer, rows without gaps, larger buffers; reads and fills of less.
 pub fn range(case: &Case<'_>, found: &mut Candidates) -> Result<(), AllocError> {

@@ -2,9 +2,8 @@ use crate::cases::{Case, place_of};
 use std::alloc::AllocError;
 use vk_edits::{Change, EditList};
 use vk_model::{
-    BufferElement, Cmd, Duplicate, Element, Entry, ImageElement, SemaphoreSubmit, Sequence,
+    Action, BufferElement, Cmd, Duplicate, Element, Entry, ImageElement, SemaphoreSubmit, Sequence,
 };
-use vk_order::Action;
 
 /// An id in place of another one.
 #[derive(Clone, Copy)]

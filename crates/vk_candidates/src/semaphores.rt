@@ -1,8 +1,7 @@
 use crate::cases::{Candidates, Case, place_of};
 use std::alloc::AllocError;
 use vk_edits::Change;
-use vk_model::{Entry, SemaphoreSubmit, SemaphoreValue, Sequence, Stages};
-use vk_order::{Action, Point};
+use vk_model::{Action, Entry, Point, SemaphoreSubmit, SemaphoreValue, Sequence, Stages};
 
 /// The greatest value that a semaphore has had before the refused point.
 pub fn last_value(case: &Case<'_>, semaphore: u32) -> u64 {

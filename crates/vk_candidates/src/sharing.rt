@@ -1,8 +1,7 @@
 use crate::cases::{Candidates, Case};
 use crate::uses::uses_of;
 use std::alloc::AllocError;
-use vk_model::{BufferInfo, Entry, ImageInfo, Sharing};
-use vk_order::{Action, Point};
+use vk_model::{Action, BufferInfo, Entry, ImageInfo, Point, Sharing};
 
 /// Resources are shared by all families where they are made.
 pub fn concurrent(

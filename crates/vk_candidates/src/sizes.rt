@@ -3,10 +3,9 @@ use crate::entries::replaced;
 use crate::reaches::reach_of;
 use std::alloc::AllocError;
 use vk_model::{
-    BufferCopy, BufferElement, BufferInfo, Cmd, Element, Entry, ImageInfo, Kind, Length,
+    Action, BufferCopy, BufferElement, BufferInfo, Cmd, Element, Entry, ImageInfo, Kind, Length,
     MemoryInfo, PoolInfo, Sequence,
 };
-use vk_order::Action;
 
 /// The most bytes of a memory object.
 const MOST_MEMORY: u64 = 67_108_864;

@@ -3,7 +3,7 @@ use crate::orders::covering;
 use crate::uses::Use;
 use std::alloc::AllocError;
 use vk_edits::{Change, EditList, InBatch};
-use vk_order::{Action, Point};
+use vk_model::{Action, Point};
 
 /// The waits of the point's batch cover all commands, or the first signal after each earlier command
 /// on another queue that touched the resources; or both.

@@ -6,10 +6,9 @@ use crate::rows::{Rows, rows_of, texel_bytes};
 use std::alloc::AllocError;
 use vk_edits::InBatch;
 use vk_model::{
-    Accesses, BufferCopy, BufferImageCopy, BufferInfo, Cmd, Dependency, Duplicate, Entry,
+    Accesses, Action, BufferCopy, BufferImageCopy, BufferInfo, Cmd, Dependency, Duplicate, Entry,
     ImageCopy, Layout, Place, Sequence, Sharing, Stages, Usage,
 };
-use vk_order::Action;
 
 /// What each region in the buffer between starts at a multiple of, in bytes.
 const APART: u64 = 16;

@@ -5,10 +5,9 @@ use crate::renaming::{Renaming, rename};
 use std::alloc::AllocError;
 use vk_edits::EditList;
 use vk_model::{
-    BufferInfo, Entry, Format, ImageInfo, Kind as Tiling, MemoryInfo, Place, PoolInfo, PoolKind,
-    Sharing, Usage,
+    Action, BufferInfo, Entry, Format, ImageInfo, Kind as Tiling, MemoryInfo, Place, PoolInfo,
+    PoolKind, Sharing, Usage,
 };
-use vk_order::Action;
 
 /// The fewest bytes of what is made up.
 const LEAST: u64 = 64;

@@ -2,8 +2,7 @@ use crate::cases::{Candidates, Case, place_of};
 use crate::hazards::barrier;
 use crate::uses::Use;
 use std::alloc::AllocError;
-use vk_model::{Accesses, Cmd, Dependency, Element, ImageElement, Sequence, Stages};
-use vk_order::{Action, Point};
+use vk_model::{Accesses, Action, Cmd, Dependency, Element, ImageElement, Point, Sequence, Stages};
 
 /// The bits of TRANSFER_READ and TRANSFER_WRITE.
 const TRANSFERS: u32 = 6144;

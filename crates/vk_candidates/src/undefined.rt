@@ -2,8 +2,7 @@ use crate::cases::{Candidates, Case};
 use crate::sharing::sources;
 use crate::{contents, images, losses, sharing};
 use std::alloc::AllocError;
-use vk_model::Entry;
-use vk_order::Action;
+use vk_model::{Action, Entry};
 
 /// Repairs of a read of an undefined byte: a flush before an invalidation that lost what was
 /// written, a transition that keeps the contents, a transfer of ownership; resources that no family

@@ -1,6 +1,5 @@
 use std::alloc::{AllocError, Global};
-use vk_model::{Cmd, Element, Entry};
-use vk_order::Action;
+use vk_model::{Action, Cmd, Element, Entry};
 
 /// A resource that a point names, and whether it writes to it.
 #[derive(Clone, Copy)]

@@ -3,8 +3,7 @@ use crate::orders::covering;
 use crate::semaphores::{host_wait, last_value};
 use std::alloc::AllocError;
 use vk_edits::{Change, EditList};
-use vk_model::{Batch, Duplicate, Entry, SemaphoreValue, Sequence};
-use vk_order::{Action, Point};
+use vk_model::{Action, Batch, Duplicate, Entry, Point, SemaphoreValue, Sequence};
 
 /// Repairs of a wait that is never met: what signals later comes before, the host signals what
 /// batches wait for, or what is waited for itself; a wait for what there is.

@@ -1,7 +1,7 @@
 ghost use Rattle.std.specs.Prelude.{◌≡◌, ℕ, Some, slice_get, take};
 ghost use Rattle.vk_model.specs.Sync.Node.{nodes};
-ghost use Rattle.vk_order.specs.declared.point.Point.{Point as AnyPoint};
-ghost use Rattle.vk_order.specs.PointViews.{point_of};
+ghost use Rattle.vk_model.specs.declared.point.Point.{Point as AnyPoint};
+ghost use Rattle.vk_model.specs.Trace.PointViews.{point_of};
 ghost use Rattle.vk_order.specs.Queries.{IsNew};
 ghost use Rattle.vk_queues.specs.PointViews.{past_of};
 
@@ -9,8 +9,8 @@ use crate::creating::{place_in, started_batches};
 use crate::trail::uses;
 use std::alloc::{AllocError, Global};
 use std::collections::BTreeSet;
-use vk_model::{At, Batch, Cmd, Element, Entry, Place};
-use vk_order::{Action, Point, Points, rows_of};
+use vk_model::{Action, At, Batch, Cmd, Element, Entry, Place, Point};
+use vk_order::{Points, rows_of};
 use vk_past::order_of;
 
 /// What uses an object that ends.

@@ -2,8 +2,7 @@ use crate::busy::{User, user_of};
 use crate::signalers::{Signaler, signaler_of};
 use crate::undefined::{Undefined, undefined_read};
 use std::alloc::{AllocError, Global};
-use vk_model::{At, Entry, Rule};
-use vk_order::Action;
+use vk_model::{Action, At, Entry, Rule};
 use vk_past::{Split, points_until, split_of};
 
 /// What is reported of a refused point beside its facts.

@@ -1,7 +1,6 @@
 use std::alloc::{AllocError, Global};
 use std::collections::{BTreeMap, BTreeSet};
-use vk_model::{Entry, Place, Sharing};
-use vk_order::{Action, Point};
+use vk_model::{Action, Entry, Place, Point, Sharing};
 
 /// The entries of some points that made ids; of several that made one the last.
 #[derive(Drop)]

@@ -1,8 +1,7 @@
 use crate::creating::started_batches;
 use std::alloc::{AllocError, Global};
 use std::collections::BTreeSet;
-use vk_model::{At, Batch, Entry, SemaphoreSubmit, SemaphoreValue};
-use vk_order::{Action, Point};
+use vk_model::{Action, At, Batch, Entry, Point, SemaphoreSubmit, SemaphoreValue};
 
 /// What would signal the value that the host waits for.
 #[derive(Clone, Copy, Debug, PartialEq, Eq)]

@@ -1,7 +1,7 @@
 use crate::creating::CreatingEntries;
 use crate::origins::{Origin, has_texel, origin_of};
-use vk_model::{Cmd, Element, Entry, ImageElement};
-use vk_order::{Act, Action, Byte, Point, is_acquire, is_release};
+use vk_model::{Action, Cmd, Element, Entry, ImageElement, Point};
+use vk_order::{Act, Byte, is_acquire, is_release};
 
 /// What made a byte undefined.
 #[derive(Clone, Copy)]

@@ -1,7 +1,8 @@
 use crate::creating::CreatingEntries;
 use crate::trail::{Last, Loss, last_of};
 use std::alloc::{AllocError, Global};
-use vk_order::{Byte, Point};
+use vk_model::Point;
+use vk_order::Byte;
 
 /// So many times bytes are followed over a point at most.
 const MOST_STEPS: u64 = 134_217_728;

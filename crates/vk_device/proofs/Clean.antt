@@ -21,7 +21,7 @@ use Rattle.vk_model.specs.declared.resource.ImageInfo.{ImageInfo}
 use Rattle.vk_model.specs.Trace.Image.{image_size}
 use Rattle.vk_model.specs.declared.resource.Place.{Place}
 use Rattle.vk_model.specs.declared.resource.Place.TheVariants as place
-use Rattle.vk_history.specs.Supported.{is_supported, is_supported_action}
+use Rattle.vk_model.specs.Trace.Supported.{is_supported, is_supported_action}
 use Rattle.vk_device.specs.Inner.Clean.{IsClean}
 use Rattle.vk_device.specs.Inner.Fits.{FitsAction, AllFit}
 use Rattle.vk_resources.specs.Fits.{FitsFill, FitsCommand, IsUnused, FitsPlace, FitsRange, FitsLength, FitsEntry}

@@ -24,8 +24,8 @@ use Rattle.vk_model.proofs.Lists.Pairs.{Each}
 use Rattle.vk_model.proofs.Trace.Growing.{Quiet, same_entries, entries_after, entry_grows, order_grows, order_append}
 use Rattle.vk_laws.specs.DefinedRuns.{DefinedRunsFollow}
 use Rattle.vk_laws.specs.DirectRuns.{DirectRunsAreRuns}
-use Rattle.vk_order.specs.declared.point.Point.{Point as AnyPoint}
-use Rattle.vk_order.specs.PointViews.{point_of}
+use Rattle.vk_model.specs.declared.point.Point.{Point as AnyPoint}
+use Rattle.vk_model.specs.Trace.PointViews.{point_of}
 use Rattle.vk_queues.specs.declared.waiting.Waiting.{Waiting}
 use Rattle.vk_queues.specs.PointViews.{add, past_after}
 use Rattle.vk_queues.specs.IsWaiting.{IsWaiting}

@@ -25,7 +25,7 @@ use Rattle.vk_resources.specs.declared.applied.Applied.TheVariants as applied
 use Rattle.vk_resources.specs.Held.{byte_at, IsThere, HasCell}
 use Rattle.vk_resources.specs.Matches.{MatchesLive}
 use Rattle.vk_device.specs.declared.device.Device.{Device}
-use Rattle.vk_history.specs.Supported.{is_supported}
+use Rattle.vk_model.specs.Trace.Supported.{is_supported}
 
 -- A device has made ready the clears and copies of a past, in their order.
 abbrev pub AreWorks : List Cmd → Past → Type 0

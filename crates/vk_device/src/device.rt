@@ -7,7 +7,7 @@ ghost use Rattle.vk_resources.specs.Held.{placed, spot_of, IsSpotIn};
 ghost use Rattle.vk_resources.specs.Allocating.{NoRoomIsExact, Allots};
 ghost use Rattle.vk_offers.specs.IsOffers.{name_of};
 ghost use Rattle.vk_sync.specs.Ready.{ready};
-ghost use Rattle.vk_order.specs.PointViews.{point_of};
+ghost use Rattle.vk_model.specs.Trace.PointViews.{point_of};
 ghost use Rattle.std.specs.Prelude.{◌<◌};
 ghost use Rattle.vk_model.specs.Run.Picks.{pick_of, held_after};
 ghost use Rattle.vk_device.specs.Inner.Ready.{option_count};
@@ -19,11 +19,10 @@ use vk_laws::{
     direct_runs_go_on, new_memory_holds_anything, offered_are_pieces, picks_are_runs,
 };
 use vk_model::{
-    Config, Entry, Scheduler, growth_keeps, no_fault_is_sound, order_is_structured,
+    Config, Entry, Point, Scheduler, growth_keeps, no_fault_is_sound, order_is_structured,
     pieces_are_byte_writes,
 };
 use vk_offers::{Offers, Piece, points_come_next, run_at, waits_go};
-use vk_order::Point;
 use vk_queues::{Waiting, points_after};
 use vk_resources::{Applied, Resources, Spot, Work};
 

@@ -3,10 +3,10 @@ ghost use Rattle.std.specs.Io.KnownBytes.{Appends, Keeps};
 ghost use Rattle.vk_model.specs.declared.entry.Entry.{Entry};
 ghost use Rattle.vk_model.specs.Rules.Table.{first_fault};
 ghost use Rattle.vk_model.specs.Trace.Order.{order};
-ghost use Rattle.vk_history.specs.Supported.{is_supported};
+ghost use Rattle.vk_model.specs.Trace.Supported.{is_supported};
 ghost use Rattle.vk_trace.specs.Trace.{IsTrace};
 ghost use Rattle.vk_trace.specs.Watching.{counted};
-ghost use Rattle.vk_trace.specs.Run.{IsBeforeWriting, IsJudged};
+ghost use Rattle.vk_trace.specs.Streams.{IsBeforeWriting, IsJudged};
 ghost use Rattle.vk_explain.specs.Explained.{Answers, Explains, IsExplained, IsExplanation, judgment_of};
 
 use crate::forms::{Form, Wanted};

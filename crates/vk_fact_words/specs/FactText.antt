@@ -4,8 +4,8 @@ use Rattle.vk_model.specs.declared.rule.At.{At}
 use Rattle.vk_model.specs.Trace.Point.{at_of}
 use Rattle.vk_order.specs.declared.bytes.Byte.{Byte}
 use Rattle.vk_order.specs.declared.bytes.Byte.TheVariants as byte
-use Rattle.vk_order.specs.declared.point.Point.{Point}
-use Rattle.vk_order.specs.PointViews.{point_of}
+use Rattle.vk_model.specs.declared.point.Point.{Point}
+use Rattle.vk_model.specs.Trace.PointViews.{point_of}
 use Rattle.vk_words.specs.Points.{kind_text, at_text}
 use Rattle.vk_facts.specs.declared.asked.ObjectKind.{ObjectKind}
 use Rattle.vk_facts.specs.declared.asked.ObjectKind.TheVariants as kind

@@ -3,8 +3,8 @@ ghost use Rattle.vk_fact_words.specs.FactText as text;
 
 use std::alloc::{AllocError, Global};
 use vk_facts::{CounterFact, Fact, HazardFact, Life, ObjectKind};
-use vk_model::{At, Entry};
-use vk_order::{Byte, Point};
+use vk_model::{At, Entry, Point};
+use vk_order::Byte;
 use vk_past::at_of;
 use vk_words::{kind_name, point_words, push_at, push_number};
 

@@ -1,7 +1,6 @@
 use crate::quoting::push_quoted;
 use std::alloc::{AllocError, Global};
-use vk_model::{At, Entry, Rule};
-use vk_order::Point;
+use vk_model::{At, Entry, Point, Rule};
 use vk_overlap_facts::overlap_of;
 use vk_overlap_words::overlap_words;
 use vk_pass_facts::pass_fact_of;

@@ -8,7 +8,7 @@ use Rattle.vk_model.specs.Sync.Node.{Node, nodes}
 use Rattle.vk_model.specs.Sync.Before.{before}
 use Rattle.vk_model.specs.Sync.Seen.{Read, Write}
 use Rattle.vk_model.specs.Sync.Access.{is_in, reads, writes, is_seen}
-use Rattle.vk_order.specs.PointViews.{node_of}
+use Rattle.vk_order.specs.NodeViews.{node_of}
 use Rattle.vk_facts.specs.declared.hazards.Hazard.{Hazard}
 use Rattle.vk_facts.specs.declared.hazards.Hazard.TheVariants.{War, Raw, Waw}
 use Rattle.vk_facts.specs.declared.hazards.Placed.{Placed}

@@ -2,7 +2,7 @@ ghost use Rattle.std.specs.Prelude.{◌≡◌, ◌≤◌, ◌<◌, ◌+◌, ◌^
 ghost use Rattle.vk_model.specs.World.Bytes.{in_buffer};
 ghost use Rattle.vk_model.specs.World.Effect.{in_atoms};
 ghost use Rattle.vk_model.specs.Sync.Seen.{has_byte, covers};
-ghost use Rattle.vk_order.specs.PointViews.{act_of};
+ghost use Rattle.vk_order.specs.NodeViews.{act_of};
 ghost use Rattle.vk_facts.specs.Areas.{is_between};
 ghost use Rattle.vk_facts.specs.Inner.Pairs.{IsAlike};
 

@@ -1,12 +1,11 @@
 ghost use Rattle.std.specs.Prelude.{◌≡◌, ◌∷◌, [], ◌++◌, IfOk, OnOk, map};
 ghost use Rattle.std.specs.List.{flat_map};
 ghost use Rattle.vk_model.specs.Rules.Ids as ids;
-ghost use Rattle.vk_order.specs.PointViews.{action_of};
+ghost use Rattle.vk_model.specs.Trace.PointViews.{action_of};
 ghost use Rattle.vk_facts.specs.Lives.{asked_of, kind_test};
 
 use std::alloc::{AllocError, Global};
-use vk_model::{Cmd, Element, Entry, Place, SemaphoreValue};
-use vk_order::Action;
+use vk_model::{Action, Cmd, Element, Entry, Place, SemaphoreValue};
 
 /// What an object is.
 #[derive(Clone, Copy, Debug, PartialEq, Eq)]

@@ -2,12 +2,11 @@ ghost use Rattle.std.specs.Prelude.{◌≡◌, IfSome, IfNone, None, option_and_
 ghost use Rattle.std.specs.List.{fold};
 ghost use Rattle.vk_model.specs.Trace.Order as spec;
 ghost use Rattle.vk_model.specs.Trace.Order.{value_for};
-ghost use Rattle.vk_order.specs.PointViews.{action_of, point_of};
+ghost use Rattle.vk_model.specs.Trace.PointViews.{action_of, point_of};
 ghost use Rattle.vk_queues.specs.PointViews.{past_of};
 ghost use Rattle.vk_facts.specs.Counters.{IsCounted, IsLow, IsEndless, IsUnmet, is_unmet};
 
-use vk_model::{Entry, SemaphoreValue};
-use vk_order::{Action, Point};
+use vk_model::{Action, Entry, Point, SemaphoreValue};
 use vk_past::{Doing, latest, made, signal_of};
 
 /// A value that is signaled or waited for, and how far its semaphore is.

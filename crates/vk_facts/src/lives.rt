@@ -4,13 +4,13 @@ ghost use Rattle.vk_model.specs.Trace.Point.{host_of};
 ghost use Rattle.vk_model.specs.Trace.Objects.{made_by};
 ghost use Rattle.vk_model.specs.Rules.Ids as ids;
 ghost use Rattle.vk_model.specs.Rules.Ids.{judged_in, until};
-ghost use Rattle.vk_order.specs.PointViews.{action_of, point_of};
+ghost use Rattle.vk_model.specs.Trace.PointViews.{action_of, point_of};
 ghost use Rattle.vk_queues.specs.PointViews.{past_of};
 ghost use Rattle.vk_facts.specs.Lives.{IsLife, IsMade, IsDead, asked_of};
 
 use crate::asked::{Asked, ObjectKind, asked_by};
 use std::alloc::{AllocError, Global};
-use vk_order::{Action, Point};
+use vk_model::{Action, Point};
 use vk_past::{Doing, entry_of, latest, live, made};
 
 /// What became of an id.

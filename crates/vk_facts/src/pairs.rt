@@ -6,7 +6,7 @@ ghost use Rattle.vk_model.specs.Sync.Edge as edge;
 ghost use Rattle.vk_model.specs.Sync.Access.{is_seen};
 ghost use Rattle.vk_order.specs.Bytes.{byte_of};
 ghost use Rattle.vk_order.specs.Wide.{access_of};
-ghost use Rattle.vk_order.specs.PointViews.{act_of, node_of};
+ghost use Rattle.vk_order.specs.NodeViews.{act_of, node_of};
 ghost use Rattle.vk_facts.specs.declared.areas.Area.TheVariants as area;
 ghost use Rattle.vk_facts.specs.Areas.{AreAreas, has, have};
 ghost use Rattle.vk_facts.specs.Hazards.{is_missing, earlier_bytes, later_bytes};

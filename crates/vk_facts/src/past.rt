@@ -1,15 +1,16 @@
 ghost use Rattle.std.specs.Prelude.{◌≡◌, ◌∷◌, [], ℕ, IfOk, Some, slice_get, take, length};
 ghost use Rattle.vk_model.specs.Trace.Point as spec;
 ghost use Rattle.vk_model.specs.Sync.Node.{nodes};
-ghost use Rattle.vk_order.specs.declared.point.Point.{Point as AnyPoint};
-ghost use Rattle.vk_order.specs.PointViews.{point_of};
+ghost use Rattle.vk_model.specs.declared.point.Point.{Point as AnyPoint};
+ghost use Rattle.vk_model.specs.Trace.PointViews.{point_of};
 ghost use Rattle.vk_order.specs.Queries.{IsNew};
 ghost use Rattle.vk_queues.specs.PointViews.{past_of};
 ghost use Rattle.vk_past.specs.Creators.{AreCreators};
 
 use std::alloc::{AllocError, Global};
 use std::marker::Model;
-use vk_order::{Point, Points, Row};
+use vk_model::Point;
+use vk_order::{Points, Row};
 use vk_past::{Creators, all_rows};
 
 /// The points of a trace up to and with the last one of which facts are asked, as nodes, with what

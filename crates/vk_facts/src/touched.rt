@@ -4,7 +4,7 @@ ghost use Rattle.vk_model.specs.Sync.Access as access;
 ghost use Rattle.vk_model.specs.Sync.Access.{reads_of, writes_of, targets, origins, transition_bytes};
 ghost use Rattle.vk_model.specs.World.ByteWrites.{byte_writes, buffer_size};
 ghost use Rattle.vk_model.specs.Inner.Kinds.{is_image_command, is_buffer_image_copy};
-ghost use Rattle.vk_order.specs.PointViews.{act_of};
+ghost use Rattle.vk_order.specs.NodeViews.{act_of};
 ghost use Rattle.vk_facts.specs.Areas.{AreAreas};
 
 use crate::areas::{Area, bytes};

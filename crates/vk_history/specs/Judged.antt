@@ -6,7 +6,7 @@ use Rattle.vk_model.specs.declared.rule.Rule.TheVariants as rule
 use Rattle.vk_model.specs.Trace.Point.{Past, Point}
 use Rattle.vk_model.specs.Trace.Structure.{IsOrdered}
 use Rattle.vk_model.specs.Rules.Table.{fault, breaks}
-use Rattle.vk_history.specs.Supported.{is_supported}
+use Rattle.vk_model.specs.Trace.Supported.{is_supported}
 
 -- A past that was judged.
 pub record IsJudged (past : Past) : Type 0 where

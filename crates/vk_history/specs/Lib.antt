@@ -1,4 +1,3 @@
-pub mod Supported
 pub mod PointViews
 pub mod Judged
 pub mod Made

@@ -1,7 +1,7 @@
 -- The past of the points of a walk.
 use Rattle.std.specs.Prelude.{ℕ, List, take}
 use Rattle.vk_model.specs.Trace.Point as spec
-use Rattle.vk_order.specs.declared.point.Point.{Point}
+use Rattle.vk_model.specs.declared.point.Point.{Point}
 use Rattle.vk_queues.specs.PointViews.{past_of}
 
 -- Some points, of which the first `count` have happened.

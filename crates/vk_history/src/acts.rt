@@ -1,8 +1,10 @@
 ghost use Rattle.std.specs.Prelude.{◌≡◌};
-ghost use Rattle.vk_order.specs.PointViews.{act_of, action_of};
+ghost use Rattle.vk_model.specs.Trace.PointViews.{action_of};
+ghost use Rattle.vk_order.specs.NodeViews.{act_of};
 ghost use Rattle.vk_touches.specs.Touched.{act_next};
 
-use vk_order::{Act, Action, Point};
+use vk_model::{Action, Point};
+use vk_order::Act;
 
 /// The act of a point that has a single one.
 pub fn act_of<'a>(point: &Point<'a>) -> Act<'a>

@@ -5,7 +5,7 @@ ghost use Rattle.vk_model.specs.Memory.Addresses.{need_of};
 ghost use Rattle.vk_model.specs.Rules.Binding as binding;
 ghost use Rattle.vk_model.specs.Trace.Objects.{Resource, of_buffer, of_image};
 ghost use Rattle.vk_model.specs.Trace.Point.{Past};
-ghost use Rattle.vk_order.specs.PointViews.{point_of};
+ghost use Rattle.vk_model.specs.Trace.PointViews.{point_of};
 ghost use Rattle.vk_buffer.specs.BoundMemory as memory;
 ghost use Rattle.vk_history.specs.Bound.{AreBound, AreOthers, BindsBy, ChangesBound, IsMadeIn, UnbindsBy, IsBindOf, IsUnbindOf};
 ghost use Rattle.vk_history.specs.Judged.{IsJudged};
@@ -17,8 +17,7 @@ use std::alloc::{AllocError, Global};
 use std::collections::BTreeMap;
 use vk_buffer::{Bindings, requirements};
 use vk_image_tiles::Shape;
-use vk_model::{BufferInfo, Entry, ImageInfo, Kind, MemoryInfo, Need};
-use vk_order::{Action, Point};
+use vk_model::{Action, BufferInfo, Entry, ImageInfo, Kind, MemoryInfo, Need, Point};
 
 /// What is bound in each memory object.
 #[derive(Drop)]

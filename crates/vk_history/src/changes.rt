@@ -1,13 +1,12 @@
 ghost use Rattle.std.specs.Prelude.{◌≡◌, true};
-ghost use Rattle.vk_order.specs.PointViews.{action_of};
+ghost use Rattle.vk_model.specs.Trace.PointViews.{action_of};
 ghost use Rattle.vk_model.specs.Trace.Point.{Host, Run};
 ghost use Rattle.vk_history.specs.Changes.{Fits, is_copy};
 
 use vk_model::{
-    BufferCopy, BufferImageCopy, BufferInfo, Cmd, Element, Entry, ImageCopy, ImageInfo, Length,
-    SubresourceRange,
+    Action, BufferCopy, BufferImageCopy, BufferInfo, Cmd, Element, Entry, ImageCopy, ImageInfo,
+    Length, Point, SubresourceRange,
 };
-use vk_order::{Action, Point};
 
 /// A change of the bytes of resources.
 #[derive(Clone, Copy)]

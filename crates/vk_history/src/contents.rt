@@ -7,7 +7,7 @@ ghost use Rattle.vk_model.specs.Rules.Table.{fault};
 ghost use Rattle.vk_model.specs.Sync.Node.{nodes};
 ghost use Rattle.vk_image_bytes.specs.Numbers.{byte_count};
 ghost use Rattle.vk_order.specs.Frontiers.{IsFrontier};
-ghost use Rattle.vk_order.specs.PointViews.{point_of};
+ghost use Rattle.vk_model.specs.Trace.PointViews.{point_of};
 ghost use Rattle.vk_order.specs.declared.access.Access.TheVariants.{Read as AsRead};
 ghost use Rattle.vk_touches.specs.declared.bytes.Bytes.TheVariants.{Buffer as OfBuffer};
 ghost use Rattle.vk_touches.specs.Conflicts.{SeesWrite};
@@ -25,8 +25,8 @@ use std::alloc::{AllocError, Global};
 use std::vec::Vec;
 use vk_ids::IdMap;
 use vk_image_tiles::has_bad_shape;
-use vk_model::{BufferInfo, ImageInfo, Length, SubresourceRange};
-use vk_order::{Access, Frontier, NewNode, Point};
+use vk_model::{BufferInfo, ImageInfo, Length, Point, SubresourceRange};
+use vk_order::{Access, Frontier, NewNode};
 use vk_touches::{Bytes, ResourceAccess, Spot};
 
 /// What is known of the bytes of each resource.

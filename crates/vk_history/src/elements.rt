@@ -2,11 +2,10 @@ ghost use Rattle.std.specs.Prelude.{◌≡◌, ◌∷◌, [], true};
 ghost use Rattle.vk_model.specs.declared.command.Dependency.{Dependency as AnyDependency};
 ghost use Rattle.vk_model.specs.declared.command.Element.TheVariants as element;
 ghost use Rattle.vk_model.specs.World.Ownership as ownership;
-ghost use Rattle.vk_order.specs.PointViews.{action_of};
+ghost use Rattle.vk_model.specs.Trace.PointViews.{action_of};
 ghost use Rattle.vk_history.specs.Layouts.{elements_at};
 
-use vk_model::{Cmd, Element, ImageElement};
-use vk_order::{Action, Point};
+use vk_model::{Action, Cmd, Element, ImageElement, Point};
 
 /// The elements of the barrier that a point is; of another point there are none.
 pub fn elements_of<'a>(point: &Point<'a>) -> &'a [Element]

@@ -3,14 +3,13 @@ ghost use Rattle.std.specs.Option.{option_map};
 ghost use Rattle.std.specs.Ordering.{nat_cmp};
 ghost use Rattle.std.specs.BTreeMap.{get};
 ghost use Rattle.vk_model.specs.Trace.Point.{Past};
-ghost use Rattle.vk_order.specs.PointViews.{point_of};
+ghost use Rattle.vk_model.specs.Trace.PointViews.{point_of};
 ghost use Rattle.vk_history.specs.Made.{last_set};
 ghost use Rattle.vk_history.specs.Tabled.{AreEvents, set_view};
 
 use std::alloc::{AllocError, Global};
 use std::collections::BTreeMap;
-use vk_model::{Cmd, Dependency};
-use vk_order::{Action, Point};
+use vk_model::{Action, Cmd, Dependency, Point};
 
 /// How an event was set: on which queue, and with which elements.
 #[derive(Clone, Copy)]

@@ -10,7 +10,8 @@ ghost use Rattle.vk_model.specs.World.ByteWrites.{buffer_size};
 ghost use Rattle.vk_model.specs.Rules.Ids.{judged_in};
 ghost use Rattle.vk_model.specs.Rules.Mapping.{is_mapped};
 ghost use Rattle.vk_model.specs.Sync.Node.{nodes, acts};
-ghost use Rattle.vk_order.specs.PointViews.{point_of, act_of, action_of};
+ghost use Rattle.vk_model.specs.Trace.PointViews.{point_of, action_of};
+ghost use Rattle.vk_order.specs.NodeViews.{act_of};
 ghost use Rattle.vk_order.specs.Frontiers.{IsNewNode};
 ghost use Rattle.vk_order.specs.Wide.{IsApartFrom};
 ghost use Rattle.vk_history.specs.PointViews.{past};
@@ -35,8 +36,8 @@ use crate::semaphores::Signals;
 use crate::tables::{Tables, note};
 use std::alloc::{AllocError, Global};
 use std::marker::Model;
-use vk_model::{BufferInfo, Entry, ImageInfo, MemoryInfo, Place, PoolInfo};
-use vk_order::{Access, Action, NewNode, Point};
+use vk_model::{Action, BufferInfo, Entry, ImageInfo, MemoryInfo, Place, Point, PoolInfo};
+use vk_order::{Access, NewNode};
 use vk_touches::ResourceAccess;
 
 /// What has happened: the first `count` of the points, which break no rule. What the rules ask of it

@@ -6,7 +6,7 @@ ghost use Rattle.vk_model.specs.Basics.{option_list};
 ghost use Rattle.vk_model.specs.World.Ownership.{uses, named_by};
 ghost use Rattle.vk_model.specs.Sync.Node.{Node, with_acts, command_acts, Depends, Barrier};
 ghost use Rattle.vk_model.specs.Sync.Before.{before, IsNumbered};
-ghost use Rattle.vk_order.specs.PointViews.{point_of, action_of};
+ghost use Rattle.vk_model.specs.Trace.PointViews.{point_of, action_of};
 ghost use Rattle.vk_order.specs.Frontiers.{IsFrontier, IsNewNode};
 ghost use Rattle.vk_model.specs.Trace.Point.{Point as AnyPoint};
 ghost use Rattle.vk_order.specs.declared.lines.Line.TheVariants.{Elements as OfElements};
@@ -18,8 +18,8 @@ use crate::elements::is_memory_alone;
 use crate::used::{Used, named_by, used_by};
 use std::alloc::{AllocError, Global};
 use vk_ids::IdMap;
-use vk_model::{Cmd, Element};
-use vk_order::{Act, Frontier, Line, NewNode, Point};
+use vk_model::{Cmd, Element, Point};
+use vk_order::{Act, Frontier, Line, NewNode};
 
 /// Where the last node on a line that names a resource is.
 #[derive(Clone, Copy)]

@@ -6,7 +6,7 @@ ghost use Rattle.vk_model.specs.Trace.Point.{Past};
 ghost use Rattle.vk_model.specs.World.Bytes.{World};
 ghost use Rattle.vk_model.specs.World.Effect.{world, after_element, layout_after};
 ghost use Rattle.vk_model.specs.Rules.Layouts.{has_other_layout};
-ghost use Rattle.vk_order.specs.PointViews.{point_of};
+ghost use Rattle.vk_model.specs.Trace.PointViews.{point_of};
 ghost use Rattle.vk_history.specs.Judged.{IsJudged};
 ghost use Rattle.vk_history.specs.Layouts.{AreCurrent, AreKept, AreThere, is_there, has_subresources, transition_of, is_in_undefined, HasRoom, IsNew, IsSet, SetIn};
 ghost use Rattle.vk_history.specs.Tabled.{AreObjects};
@@ -17,8 +17,7 @@ use crate::objects::Objects;
 use std::alloc::{AllocError, Global};
 use std::collections::BTreeMap;
 use vk_layouts::{Layouts, Transfer};
-use vk_model::{Element, Entry, ImageElement, ImageInfo, Layout, SubresourceRange};
-use vk_order::Point;
+use vk_model::{Element, Entry, ImageElement, ImageInfo, Layout, Point, SubresourceRange};
 
 /// The current layouts of the images that had a transition.
 #[derive(Drop)]

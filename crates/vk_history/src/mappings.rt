@@ -1,7 +1,7 @@
 ghost use Rattle.std.specs.Prelude.{◌≡◌, ◌∷◌, [], OnOk, nat_lt};
 ghost use Rattle.vk_model.specs.Trace.Point.{Past};
 ghost use Rattle.vk_model.specs.Rules.Mapping.{maps, unmaps};
-ghost use Rattle.vk_order.specs.PointViews.{point_of};
+ghost use Rattle.vk_model.specs.Trace.PointViews.{point_of};
 ghost use Rattle.vk_history.specs.Counted.{AreMappings, MapsBy, count_mapping};
 ghost use Rattle.vk_history.specs.Judged.{IsJudged};
 ghost use Rattle.vk_history.specs.Tabled.{AreObjects};
@@ -9,8 +9,7 @@ ghost use Rattle.vk_history.specs.Tabled.{AreObjects};
 use crate::counts::Counts;
 use crate::objects::Objects;
 use std::alloc::{AllocError, Global};
-use vk_model::Entry;
-use vk_order::{Action, Point};
+use vk_model::{Action, Entry, Point};
 
 /// How much more often than unmapped each memory object was mapped, and each allocation of a buffer's
 /// own, which has the buffer's id.

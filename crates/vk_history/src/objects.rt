@@ -5,15 +5,14 @@ ghost use Rattle.vk_model.specs.Trace.Point.{Past};
 ghost use Rattle.vk_model.specs.Trace.Objects as objects;
 ghost use Rattle.vk_model.specs.Trace.Objects.{made, memory, pool, memory_of, pool_of, defrag_in, resource, type_at, type_of, is_cached, is_exclusive, is_exclusive_mode};
 ghost use Rattle.vk_model.specs.Rules.Mapping.{mapping};
-ghost use Rattle.vk_order.specs.PointViews.{point_of};
+ghost use Rattle.vk_model.specs.Trace.PointViews.{point_of};
 ghost use Rattle.vk_history.specs.Made.{last_creator};
 ghost use Rattle.vk_history.specs.Tabled.{AreObjects, creator_view};
 
 use crate::places::{bound_at, memory_at, pool_at};
 use std::alloc::{AllocError, Global};
 use vk_ids::IdMap;
-use vk_model::{Entry, Place, Sharing};
-use vk_order::{Action, Point};
+use vk_model::{Action, Entry, Place, Point, Sharing};
 
 /// An entry that made an object, with its number.
 #[derive(Clone, Copy)]

@@ -2,7 +2,7 @@ ghost use Rattle.std.specs.Prelude.{◌≡◌, ◌+◌, ◌-◌, ◌∷◌, [], 
 ghost use Rattle.std.specs.List.{list_any};
 ghost use Rattle.vk_model.specs.Trace.Point.{Past};
 ghost use Rattle.vk_model.specs.Trace.Objects.{memory_of, pool_of, pool_at, live_resources};
-ghost use Rattle.vk_order.specs.PointViews.{point_of};
+ghost use Rattle.vk_model.specs.Trace.PointViews.{point_of};
 ghost use Rattle.vk_history.specs.Counted.{AreOccupants, OccupiesBy, LeavesBy, count_at, memory_at, is_id};
 ghost use Rattle.vk_history.specs.Judged.{IsJudged};
 ghost use Rattle.vk_history.specs.Tabled.{AreObjects};
@@ -11,8 +11,7 @@ use crate::counts::Counts;
 use crate::objects::Objects;
 use crate::places::{memory_at, pool_at};
 use std::alloc::{AllocError, Global};
-use vk_model::{Entry, Place};
-use vk_order::{Action, Point};
+use vk_model::{Action, Entry, Place, Point};
 
 /// How many live resources are bound to each memory object, and how many each pool has.
 #[derive(Drop)]

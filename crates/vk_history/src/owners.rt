@@ -8,7 +8,7 @@ ghost use Rattle.vk_model.specs.World.Effect as effect;
 ghost use Rattle.vk_model.specs.World.Ownership.{family_of};
 ghost use Rattle.vk_model.specs.Sync.Node.{Node, Depends, Barrier, with_acts, command_acts};
 ghost use Rattle.vk_model.specs.Sync.Before.{IsNumbered};
-ghost use Rattle.vk_order.specs.PointViews.{point_of};
+ghost use Rattle.vk_model.specs.Trace.PointViews.{point_of};
 ghost use Rattle.vk_order.specs.Frontiers.{IsFrontier};
 ghost use Rattle.vk_history.specs.Owners as owners;
 ghost use Rattle.vk_history.specs.Owners.{AreOwners, AreOwned, owned_by, kept_at, is_taken};
@@ -24,8 +24,8 @@ use crate::used::{Used, used_by};
 use std::alloc::{AllocError, Global};
 use vk_ids::IdMap;
 use vk_layouts::Transfer;
-use vk_model::{Cmd, Element};
-use vk_order::{Act, Action, Frontier, Line, Point, Spot};
+use vk_model::{Action, Cmd, Element, Point};
+use vk_order::{Act, Frontier, Line, Spot};
 
 /// Who owns a resource.
 #[derive(Clone, Copy)]

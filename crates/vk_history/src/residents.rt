@@ -1,14 +1,13 @@
 ghost use Rattle.std.specs.Prelude.{◌≡◌, ◌∷◌, [], ℕ, OnOk, Some, Contains};
 ghost use Rattle.vk_model.specs.Trace.Point.{Past};
 ghost use Rattle.vk_model.specs.Trace.Objects.{pool_at, pool_of};
-ghost use Rattle.vk_order.specs.PointViews.{point_of};
+ghost use Rattle.vk_model.specs.Trace.PointViews.{point_of};
 ghost use Rattle.vk_history.specs.Residents.{residents_at, AreResidents, ResideBy};
 
 use crate::places::pool_at;
 use std::alloc::{AllocError, Global};
 use vk_ids::IdMap;
-use vk_model::{Entry, Place};
-use vk_order::{Action, Point};
+use vk_model::{Action, Entry, Place, Point};
 
 /// The resources that were ever created in each pool, the oldest first.
 #[derive(Drop)]

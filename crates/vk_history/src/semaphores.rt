@@ -6,14 +6,14 @@ ghost use Rattle.std.specs.BTreeMap.{get};
 ghost use Rattle.vk_model.specs.Trace.Point.{Past};
 ghost use Rattle.vk_model.specs.Trace.Order.{signaled, signal_of};
 ghost use Rattle.vk_model.specs.Sync.Node.{nodes};
-ghost use Rattle.vk_order.specs.PointViews.{point_of, action_of};
+ghost use Rattle.vk_model.specs.Trace.PointViews.{point_of, action_of};
 ghost use Rattle.vk_touches.specs.Touched.{last_signaler, class_next, next_place, signal_spot};
 ghost use Rattle.vk_history.specs.Tabled.{AreSemaphores, spot_view, greatest_of};
 
 use std::alloc::{AllocError, Global};
 use std::collections::BTreeMap;
-use vk_model::{Entry, SemaphoreValue};
-use vk_order::{Action, Line, Point};
+use vk_model::{Action, Entry, Point, SemaphoreValue};
+use vk_order::Line;
 
 /// What was signaled to a semaphore.
 #[derive(Clone, Copy)]

@@ -1,6 +1,6 @@
 ghost use Rattle.std.specs.Prelude.{◌≡◌, ◌∷◌, OnOk, []};
 ghost use Rattle.vk_model.specs.Trace.Point.{Past};
-ghost use Rattle.vk_order.specs.PointViews.{point_of};
+ghost use Rattle.vk_model.specs.Trace.PointViews.{point_of};
 ghost use Rattle.vk_history.specs.Judged.{IsJudged};
 ghost use Rattle.vk_touches.specs.Touched.{class_next};
 ghost use Rattle.vk_history.specs.Tabled.{IsTabled};
@@ -19,7 +19,8 @@ use crate::residents::Residents;
 use crate::semaphores::Semaphores;
 use crate::uses::Uses;
 use std::alloc::{AllocError, Global};
-use vk_order::{Action, Frontier, Line, Point};
+use vk_model::{Action, Point};
+use vk_order::{Frontier, Line};
 use vk_touches::Spot;
 
 /// What is asked of the past.

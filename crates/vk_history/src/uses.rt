@@ -4,7 +4,7 @@ ghost use Rattle.vk_model.specs.declared.entry.Entry.{Entry as AnyEntry};
 ghost use Rattle.vk_model.specs.Trace.Structure.{IsOrdered};
 ghost use Rattle.vk_model.specs.Sync.Node.{nodes, Hosts};
 ghost use Rattle.vk_model.specs.Sync.Complete as complete;
-ghost use Rattle.vk_order.specs.PointViews.{point_of};
+ghost use Rattle.vk_model.specs.Trace.PointViews.{point_of};
 ghost use Rattle.vk_order.specs.Frontiers.{IsFrontier, IsNewNode};
 ghost use Rattle.vk_touches.specs.Touched.{next_node};
 ghost use Rattle.vk_history.specs.Counted.{count_at};
@@ -14,8 +14,8 @@ use crate::counts::Counts;
 use crate::last_uses::LastUses;
 use crate::used::{count_batches, discount_command};
 use std::alloc::{AllocError, Global};
-use vk_model::Entry;
-use vk_order::{Action, Frontier, NewNode, Point};
+use vk_model::{Action, Entry, Point};
+use vk_order::{Frontier, NewNode};
 
 /// How resources are used by commands that were submitted.
 #[derive(Drop)]

@@ -6,7 +6,8 @@ use Rattle.vk_model.specs.Sync.Node.{Node, Act, Hosts, Waits, Signals, Runs, Dep
 use Rattle.vk_model.specs.Sync.Edge.{is_host}
 use Rattle.vk_model.specs.Sync.Seen.{Access, makes_writes_visible, to_host, host_mask}
 use Rattle.vk_order.specs.declared.acts.Row.{Row}
-use Rattle.vk_order.specs.PointViews.{act_of, point_of, node_of}
+use Rattle.vk_model.specs.Trace.PointViews.{point_of}
+use Rattle.vk_order.specs.NodeViews.{act_of, node_of}
 use Rattle.vk_order.specs.Edges as edges
 use Rattle.vk_links.specs.Links.{cached, is_available_at, shows_host}
 

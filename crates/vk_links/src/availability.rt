@@ -4,7 +4,7 @@ ghost use Rattle.vk_model.specs.Sync.Before.{before};
 ghost use Rattle.vk_model.specs.Sync.Seen.{flushes};
 ghost use Rattle.vk_model.specs.World.Bytes.{Byte as AnyByte};
 ghost use Rattle.vk_order.specs.Bytes.{byte_of};
-ghost use Rattle.vk_order.specs.PointViews.{act_of, node_of};
+ghost use Rattle.vk_order.specs.NodeViews.{act_of, node_of};
 ghost use Rattle.vk_order.specs.Lines.{class_of};
 ghost use Rattle.vk_order.specs.Edges.{made_available_by};
 ghost use Rattle.vk_facts.specs.Hazards.{node_at};

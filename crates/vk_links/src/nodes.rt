@@ -1,8 +1,8 @@
 ghost use Rattle.std.specs.Prelude.{◌≡◌, ◌<◌, ℕ, IfOk, Some, Contains, slice_get, take, length};
 ghost use Rattle.vk_model.specs.Sync.Node.{Node, nodes};
 ghost use Rattle.vk_model.specs.Sync.Before.{before};
-ghost use Rattle.vk_order.specs.declared.point.Point.{Point as AnyPoint};
-ghost use Rattle.vk_order.specs.PointViews.{point_of};
+ghost use Rattle.vk_model.specs.declared.point.Point.{Point as AnyPoint};
+ghost use Rattle.vk_model.specs.Trace.PointViews.{point_of};
 ghost use Rattle.vk_order.specs.Places.{IsApart};
 ghost use Rattle.vk_order.specs.Queries.{IsNew};
 ghost use Rattle.vk_queues.specs.PointViews.{past_of};
@@ -11,7 +11,8 @@ ghost use Rattle.vk_facts.specs.Hazards.{node_at};
 use std::alloc::{AllocError, Global};
 use std::marker::Model;
 use vk_facts::Placed;
-use vk_order::{Point, Points, Row, elements_are_together};
+use vk_model::Point;
+use vk_order::{Points, Row, elements_are_together};
 use vk_past::{all_rows, order_of};
 
 /// The nodes of points, and their order. Contracts see the points, the newest first.

@@ -5,7 +5,7 @@ ghost use Rattle.vk_model.specs.Sync.Seen.{to_host, host_mask};
 ghost use Rattle.vk_model.specs.World.Ownership.{dependency_of};
 ghost use Rattle.vk_order.specs.Bytes.{byte_of};
 ghost use Rattle.vk_order.specs.Wide.{access_of};
-ghost use Rattle.vk_order.specs.PointViews.{act_of, node_of};
+ghost use Rattle.vk_order.specs.NodeViews.{act_of, node_of};
 ghost use Rattle.vk_order.specs.Edges.{makes_visible};
 ghost use Rattle.vk_facts.specs.Hazards.{node_at};
 ghost use Rattle.vk_links.specs.Links.{shows_host, shows_in_time, IsFirst};

@@ -2,7 +2,7 @@
 use Rattle.std.proofs.Common.{◌≡◌, ◌+◌, List, [], ◌∷◌, length, ◌∙◌, arith}
 use Rattle.std.specs.List.{fold}
 use Rattle.vk_model.specs.Trace.Point.{Past}
-use Rattle.vk_order.specs.declared.point.Point.{Point}
+use Rattle.vk_model.specs.declared.point.Point.{Point}
 use Rattle.vk_queues.specs.PointViews.{add, past_of}
 
 length_after : (ps : List Point) (past : Past) → length (fold add past ps) ≡ length ps + length past

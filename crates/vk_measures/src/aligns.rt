@@ -5,15 +5,14 @@ ghost use Rattle.vk_model.specs.Basics.{holds};
 ghost use Rattle.vk_model.specs.Trace.Image.{texel};
 ghost use Rattle.vk_model.specs.Trace.Objects as objects;
 ghost use Rattle.vk_model.specs.Rules.Ranges as rules;
-ghost use Rattle.vk_order.specs.PointViews.{point_of};
+ghost use Rattle.vk_model.specs.Trace.PointViews.{point_of};
 ghost use Rattle.vk_queues.specs.PointViews.{past_of};
 ghost use Rattle.vk_measures.specs.Ranges.{IsAlign, IsMisaligned};
 ghost use Rattle.vk_measures.specs.Inner.Ranges.{IsOff, IsOffLength, IsOffTexel, AreOffTexel};
 
 use crate::items::Item;
 use vk_image_tiles::texel_size;
-use vk_model::{BufferImageCopy, Cmd, Length};
-use vk_order::{Action, Point};
+use vk_model::{Action, BufferImageCopy, Cmd, Length, Point};
 use vk_past::image;
 
 /// The bytes of a word.

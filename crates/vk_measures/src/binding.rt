@@ -3,7 +3,7 @@ ghost use Rattle.vk_model.specs.Basics.{holds};
 ghost use Rattle.vk_model.specs.declared.resource.Place.TheVariants as place_of;
 ghost use Rattle.vk_model.specs.Trace.Objects as objects;
 ghost use Rattle.vk_model.specs.Rules.Binding as rules;
-ghost use Rattle.vk_order.specs.PointViews.{action_of, point_of};
+ghost use Rattle.vk_model.specs.Trace.PointViews.{action_of, point_of};
 ghost use Rattle.vk_queues.specs.PointViews.{past_of};
 ghost use Rattle.vk_measures.specs.Sizes.{OnHost, reported_need};
 ghost use Rattle.vk_measures.specs.Binding.{IsPastMemory, IsMisplaced};
@@ -11,8 +11,7 @@ ghost use Rattle.vk_measures.specs.Inner.Binding.{ends_past_object, IsPastObject
 
 use crate::needs::{buffer_need, image_need};
 use vk_image_tiles::image_align;
-use vk_model::{Entry, Place};
-use vk_order::{Action, Point};
+use vk_model::{Action, Entry, Place, Point};
 use vk_past::{memory, type_at};
 
 /// The alignment that a buffer asks for in bytes.

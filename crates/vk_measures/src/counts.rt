@@ -4,14 +4,13 @@ ghost use Rattle.vk_model.specs.declared.command.Length.TheVariants as length_of
 ghost use Rattle.vk_model.specs.Trace.Image as shape;
 ghost use Rattle.vk_model.specs.World.ByteWrites.{buffer_size};
 ghost use Rattle.vk_model.specs.Rules.Sizes as rules;
-ghost use Rattle.vk_order.specs.PointViews.{action_of, point_of};
+ghost use Rattle.vk_model.specs.Trace.PointViews.{action_of, point_of};
 ghost use Rattle.vk_queues.specs.PointViews.{past_of};
 ghost use Rattle.vk_measures.specs.Counts.{IsSize, IsHostSize, IsPoolSize, IsSizeOf, is_out, image_limits, fill_limits, copy_limits, elements_limits, command_limits};
 ghost use Rattle.vk_measures.specs.Inner.Counts.{IsLength, IsElementSize};
 
 use crate::items::Item;
-use vk_model::{BufferCopy, Cmd, Element, Entry, ImageInfo, Kind, Length, PoolInfo};
-use vk_order::{Action, Point};
+use vk_model::{Action, BufferCopy, Cmd, Element, Entry, ImageInfo, Kind, Length, Point, PoolInfo};
 use vk_past::size;
 
 /// The greatest size of a block of a pool in bytes.

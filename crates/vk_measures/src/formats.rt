@@ -3,14 +3,13 @@ ghost use Rattle.std.specs.Option.{option_map};
 ghost use Rattle.vk_model.specs.Trace.Image.{texel};
 ghost use Rattle.vk_model.specs.Trace.Objects as objects;
 ghost use Rattle.vk_model.specs.Rules.Ranges as rules;
-ghost use Rattle.vk_order.specs.PointViews.{action_of, point_of};
+ghost use Rattle.vk_model.specs.Trace.PointViews.{action_of, point_of};
 ghost use Rattle.vk_queues.specs.PointViews.{past_of};
 ghost use Rattle.vk_measures.specs.Ranges.{IsFormat};
 ghost use Rattle.vk_measures.specs.Inner.Ranges.{texels_differ, AreOtherTexels};
 
 use vk_image_tiles::texel_size;
-use vk_model::Cmd;
-use vk_order::{Action, Point};
+use vk_model::{Action, Cmd, Point};
 use vk_past::image;
 
 /// FORMAT: the texels of the two images of a copy, which are of other sizes.

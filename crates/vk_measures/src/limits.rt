@@ -2,7 +2,7 @@ ghost use Rattle.std.specs.Prelude.{◌≡◌, nat_le, IfSome, is_some, length};
 ghost use Rattle.vk_queues.specs.PointViews.{past_of};
 ghost use Rattle.vk_measures.specs.Limits.{IsLimit};
 
-use vk_order::Point;
+use vk_model::Point;
 
 /// How many points a trace may have.
 const MOST_POINTS: usize = 131_072;

@@ -1,7 +1,7 @@
 ghost use Rattle.std.specs.Prelude.{◌≡◌, ◌∷◌};
 ghost use Rattle.vk_model.specs.Trace.Point as spec;
 ghost use Rattle.vk_model.specs.declared.rule.Rule.TheVariants as rule;
-ghost use Rattle.vk_order.specs.PointViews.{point_of};
+ghost use Rattle.vk_model.specs.Trace.PointViews.{point_of};
 ghost use Rattle.vk_queues.specs.PointViews.{past_of};
 ghost use Rattle.vk_measures.specs.Measures.{IsMeasured};
 
@@ -22,8 +22,7 @@ use crate::stages::{BadMasks, stage_of};
 use crate::subresources::subresource_of;
 use crate::transfers::{PartTransfer, owner_whole_of};
 use crate::usages::{UsageMeasure, usage_of};
-use vk_model::Rule;
-use vk_order::Point;
+use vk_model::{Point, Rule};
 use vk_past::split_of;
 
 /// What a rule compares at a point that breaks it.

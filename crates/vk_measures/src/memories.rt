@@ -4,15 +4,14 @@ ghost use Rattle.vk_model.specs.Trace.Objects as objects;
 ghost use Rattle.vk_model.specs.Trace.Point.{on_host};
 ghost use Rattle.vk_model.specs.Rules.Mapping as mapping;
 ghost use Rattle.vk_model.specs.Rules.Sizes as rules;
-ghost use Rattle.vk_order.specs.PointViews.{action_of, point_of};
+ghost use Rattle.vk_model.specs.Trace.PointViews.{action_of, point_of};
 ghost use Rattle.vk_queues.specs.PointViews.{past_of};
 ghost use Rattle.vk_measures.specs.Mapping.{IsHidden};
 ghost use Rattle.vk_measures.specs.Inner.Sizes.{is_over_half, IsOverHalfOf};
 ghost use Rattle.vk_measures.specs.Sizes.{OnHost, IsBadType, IsBadSize, IsOverHalf, is_type_allowed, reported_need};
 
 use crate::needs::{buffer_need, image_need};
-use vk_model::{Entry, Kind, Place};
-use vk_order::{Action, Point};
+use vk_model::{Action, Entry, Kind, Place, Point};
 use vk_past::{pool, pool_at, type_at, type_of};
 
 /// The greatest memory type.

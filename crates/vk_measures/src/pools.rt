@@ -2,14 +2,13 @@ ghost use Rattle.std.specs.Prelude.{◌≡◌, IfSome, is_some, option_and_then}
 ghost use Rattle.vk_model.specs.Basics.{holds};
 ghost use Rattle.vk_model.specs.Trace.Objects as objects;
 ghost use Rattle.vk_model.specs.Rules.Passes as rules;
-ghost use Rattle.vk_order.specs.PointViews.{action_of, point_of};
+ghost use Rattle.vk_model.specs.Trace.PointViews.{action_of, point_of};
 ghost use Rattle.vk_queues.specs.PointViews.{past_of};
 ghost use Rattle.vk_measures.specs.Sizes.{OnHost};
 ghost use Rattle.vk_measures.specs.Passes.{IsPoolKind};
 ghost use Rattle.vk_measures.specs.Inner.Passes.{IsUnable, IsUnableAt};
 
-use vk_model::{Entry, Place, PoolKind};
-use vk_order::{Action, Point};
+use vk_model::{Action, Entry, Place, Point, PoolKind};
 use vk_past::pool;
 
 /// What is asked of a pool.

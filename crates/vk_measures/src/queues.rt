@@ -1,11 +1,10 @@
 ghost use Rattle.std.specs.Prelude.{◌≡◌, ◌&&◌, nat_le, IfSome, is_some, option_and_then};
 ghost use Rattle.vk_model.specs.Trace.Point.{command_of, on_host, on_command};
 ghost use Rattle.vk_model.specs.Rules.Ids as rules;
-ghost use Rattle.vk_order.specs.PointViews.{action_of, point_of};
+ghost use Rattle.vk_model.specs.Trace.PointViews.{action_of, point_of};
 ghost use Rattle.vk_measures.specs.Ids.{IsQueue, IsQueueKind, queue_command};
 
-use vk_model::{Cmd, Entry};
-use vk_order::{Action, Point};
+use vk_model::{Action, Cmd, Entry, Point};
 
 /// The greatest number of a queue.
 const GREATEST_QUEUE: u32 = 3;

@@ -7,15 +7,14 @@ ghost use Rattle.vk_model.specs.Trace.Objects as objects;
 ghost use Rattle.vk_model.specs.Trace.Point as spec;
 ghost use Rattle.vk_model.specs.World.ByteWrites.{buffer_size};
 ghost use Rattle.vk_model.specs.Rules.Ranges as rules;
-ghost use Rattle.vk_order.specs.PointViews.{action_of, point_of};
+ghost use Rattle.vk_model.specs.Trace.PointViews.{action_of, point_of};
 ghost use Rattle.vk_queues.specs.PointViews.{past_of};
 ghost use Rattle.vk_measures.specs.Ranges.{IsRange, IsPastOf, command_bytes};
 ghost use Rattle.vk_measures.specs.Inner.Ranges.{IsElementPast, IsRowOf};
 
 use crate::items::Item;
 use crate::regions::{PastRows, ShortRows, past_rows, short_rows};
-use vk_model::{BufferCopy, BufferImageCopy, Cmd, Element, Entry, Length};
-use vk_order::{Action, Point};
+use vk_model::{Action, BufferCopy, BufferImageCopy, Cmd, Element, Entry, Length, Point};
 use vk_past::{image, size};
 
 /// Bytes of a buffer that a point names, and that end past the buffer.

@@ -7,14 +7,13 @@ ghost use Rattle.vk_model.specs.Trace.Point as spec;
 ghost use Rattle.vk_model.specs.World.Ownership.{dependency_of};
 ghost use Rattle.vk_model.specs.Rules.Synchronization as rules;
 ghost use Rattle.vk_model.specs.Rules.Synchronization.{known_stages};
-ghost use Rattle.vk_order.specs.PointViews.{action_of};
+ghost use Rattle.vk_model.specs.Trace.PointViews.{action_of};
 ghost use Rattle.vk_measures.specs.Synchronization.{IsStage, IsUnfit, is_barring};
 ghost use Rattle.vk_measures.specs.Inner.Synchronization.{AreMasks, AreMasksAt, AreEventMasks, AreEventMasksAt};
 
 use crate::items::Item;
 use bitflags::Flags;
-use vk_model::{Accesses, Cmd, Dependency, Element, Stages};
-use vk_order::{Action, Point};
+use vk_model::{Accesses, Action, Cmd, Dependency, Element, Point, Stages};
 
 /// All stages that there are.
 const KNOWN_STAGES: Stages = Stages(Stages::TRANSFER.0 | Stages::HOST.0 | Stages::ALL_COMMANDS.0);

@@ -5,7 +5,7 @@ ghost use Rattle.vk_model.specs.Basics.{holds};
 ghost use Rattle.vk_model.specs.Trace.Objects as objects;
 ghost use Rattle.vk_model.specs.World.Areas.{region_box, source_box, destination_box};
 ghost use Rattle.vk_model.specs.Rules.Ranges as rules;
-ghost use Rattle.vk_order.specs.PointViews.{action_of, point_of};
+ghost use Rattle.vk_model.specs.Trace.PointViews.{action_of, point_of};
 ghost use Rattle.vk_queues.specs.PointViews.{past_of};
 ghost use Rattle.vk_measures.specs.Subresources.{IsSubresource, IsOutside, IsOutsideOf, ranges_at, regions_at, copies_at};
 ghost use Rattle.vk_measures.specs.Inner.Subresources.{IsSpanIn, IsElementOutside};
@@ -13,8 +13,9 @@ ghost use Rattle.vk_measures.specs.Inner.Subresources.{IsSpanIn, IsElementOutsid
 use crate::boxes::box_outside;
 use crate::items::Item;
 use crate::spans::{Outside, range_outside};
-use vk_model::{BufferImageCopy, Cmd, Element, ImageCopy, ImageInfo, SubresourceRange};
-use vk_order::{Action, Point};
+use vk_model::{
+    Action, BufferImageCopy, Cmd, Element, ImageCopy, ImageInfo, Point, SubresourceRange,
+};
 use vk_overlaps::{destination_box, region_box, source_box};
 use vk_past::image;
 

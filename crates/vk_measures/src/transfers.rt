@@ -3,13 +3,14 @@ ghost use Rattle.std.specs.List.{list_any};
 ghost use Rattle.vk_model.specs.declared.command.Cmd.TheVariants as cmd;
 ghost use Rattle.vk_model.specs.declared.command.Element.TheVariants as element_of;
 ghost use Rattle.vk_model.specs.Rules.Owners as rules;
-ghost use Rattle.vk_order.specs.PointViews.{action_of, point_of};
+ghost use Rattle.vk_model.specs.Trace.PointViews.{action_of, point_of};
 ghost use Rattle.vk_queues.specs.PointViews.{past_of};
 ghost use Rattle.vk_measures.specs.Owners.{IsOwnerWhole, IsPartOf, is_whole};
 ghost use Rattle.vk_measures.specs.Inner.Owners.{IsPartAt};
 
-use vk_model::{BufferElement, Cmd, Element, Families, ImageElement, Length, SubresourceRange};
-use vk_order::{Action, Point};
+use vk_model::{
+    Action, BufferElement, Cmd, Element, Families, ImageElement, Length, Point, SubresourceRange,
+};
 use vk_past::{image, size};
 
 /// Bytes of a buffer that are transferred, and aren't all.

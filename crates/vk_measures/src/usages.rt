@@ -5,14 +5,13 @@ ghost use Rattle.vk_model.specs.declared.command.Cmd.TheVariants as cmd;
 ghost use Rattle.vk_model.specs.declared.command.Element.TheVariants as element;
 ghost use Rattle.vk_model.specs.Basics.{holds, has_bits};
 ghost use Rattle.vk_model.specs.Rules.Sizes as rules;
-ghost use Rattle.vk_order.specs.PointViews.{action_of, point_of};
+ghost use Rattle.vk_model.specs.Trace.PointViews.{action_of, point_of};
 ghost use Rattle.vk_queues.specs.PointViews.{past_of};
 ghost use Rattle.vk_measures.specs.Sizes.{IsUsage, IsLack};
 ghost use Rattle.vk_measures.specs.Inner.Sizes.{IsLackOf, AreLacks, IsElementLack};
 
 use bitflags::Flags;
-use vk_model::{Cmd, Element, Entry, ImageElement, Layout, Usage};
-use vk_order::{Action, Point};
+use vk_model::{Action, Cmd, Element, Entry, ImageElement, Layout, Point, Usage};
 use vk_past::usage;
 
 /// All usages that there are.

@@ -3,3 +3,5 @@ pub mod Objects
 pub mod Order
 pub mod Structure
 pub mod Image
+pub mod PointViews
+pub mod Supported

@@ -10,6 +10,7 @@ mod layout;
 mod making;
 mod masks;
 mod places;
+mod point;
 mod resource;
 mod rule;
 mod scheduler;
@@ -17,6 +18,7 @@ mod sequence;
 mod statistics;
 mod suballoc;
 mod subresource;
+mod supported;
 
 pub use command::{
     BufferCopy, BufferElement, BufferImageCopy, Cmd, Dependency, Element, Families, ImageCopy,
@@ -36,6 +38,7 @@ pub use places::{
     blocks_give, linear_frees, linear_stays, linear_takes, pool_stays, putting_is_sound,
     ranks_fall, subresources_hold, taking_away_is_sound, texels_apart, texels_inside,
 };
+pub use point::{Action, Point};
 pub use resource::{
     BufferInfo, ImageInfo, Kind, MemoryInfo, Need, Place, PoolInfo, PoolKind, Sharing, Spot,
 };
@@ -45,3 +48,4 @@ pub use sequence::Sequence;
 pub use statistics::Statistics;
 pub use suballoc::{SubFault, Suballoc, TakenRange};
 pub use subresource::SubresourceLayout;
+pub use supported::is_supported;

@@ -2,7 +2,7 @@ ghost use Rattle.std.specs.Prelude.{◌≡◌, ◌∷◌, ◌<◌, [], List, len
 ghost use Rattle.vk_model.specs.Trace.Point.{Past, Run};
 ghost use Rattle.vk_model.specs.Sync.Node.{Node, nodes};
 ghost use Rattle.vk_model.specs.Run.Runs.{Name, offered};
-ghost use Rattle.vk_order.specs.PointViews.{point_of};
+ghost use Rattle.vk_model.specs.Trace.PointViews.{point_of};
 ghost use Rattle.vk_sync.specs.Ready.{ready};
 ghost use Rattle.vk_order.specs.Frontiers.{IsNewNode};
 ghost use Rattle.vk_offers.specs.IsOffers.{IsOffers, ComesNext, IsPieceOf, name_of, host_node, is_free_next, CountsBefore};
@@ -11,8 +11,8 @@ ghost use Rattle.vk_offers.specs.Inner.Starting.{StartReady, Starts, Passes};
 ghost use Rattle.vk_offers.specs.IsOffers.{is_run_in_pieces};
 
 use std::alloc::{AllocError, Global};
-use vk_model::{Cmd, Entry, before_is_order, growth_keeps};
-use vk_order::{Act, Action, Frontier, NewNode, Point, commands_follow};
+use vk_model::{Action, Cmd, Entry, Point, before_is_order, growth_keeps};
+use vk_order::{Act, Frontier, NewNode, commands_follow};
 use vk_sync::{Piece, Ready};
 
 /// The points so far, as far as they decide what may run next: the commands that were started,

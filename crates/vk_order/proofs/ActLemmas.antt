@@ -6,8 +6,8 @@ use Rattle.vk_model.specs.declared.command.Dependency.{Dependency}
 use Rattle.vk_model.specs.declared.command.Element.{Element}
 use Rattle.vk_model.specs.declared.command.Element.TheVariants as element
 use Rattle.vk_model.specs.Sync.Node as sync
-use Rattle.vk_order.specs.declared.point.Act.{Act}
-use Rattle.vk_order.specs.PointViews.{act_of}
+use Rattle.vk_order.specs.declared.act.Act.{Act}
+use Rattle.vk_order.specs.NodeViews.{act_of}
 
 -- the acts of elements from index k on
 abbrev pub from_barrier : ℕ → List Element → List sync.Act

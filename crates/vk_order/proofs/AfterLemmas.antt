@@ -14,7 +14,7 @@ use Rattle.vk_order.specs.declared.acts.Row.{Row}
 use Rattle.vk_order.specs.declared.clocks.Stamp.{Stamp}
 use Rattle.vk_order.specs.declared.lines.Line.{Line}
 use Rattle.vk_order.specs.declared.writes.First.{First}
-use Rattle.vk_order.specs.PointViews.{act_of, node_of, nodes_after}
+use Rattle.vk_order.specs.NodeViews.{act_of, node_of, nodes_after}
 use Rattle.vk_order.specs.Lines.{line_of, line_on, class_of}
 use Rattle.vk_order.specs.Edges.{unsignaled}
 use Rattle.vk_order.specs.Inner.Kept.{IsSet, IsStamped}

@@ -6,7 +6,8 @@ use Rattle.std.proofs.Math.Bool.{and-false, or-false}
 use Rattle.vk_model.specs.Sync.Node.{Node, Act, Hosts, Waits, Signals, Runs, Depends, Barrier, SetOf, AwaitOf}
 use Rattle.vk_model.proofs.Lists.Members.{none_passes_any, member_passes}
 use Rattle.vk_order.specs.declared.acts.Row.{Row}
-use Rattle.vk_order.specs.PointViews.{act_of, point_of, node_of, nodes_after}
+use Rattle.vk_model.specs.Trace.PointViews.{point_of}
+use Rattle.vk_order.specs.NodeViews.{act_of, node_of, nodes_after}
 use Rattle.vk_model.proofs.Lists.Truths.{no}
 use Rattle.vk_order.specs.Lines.{class_on, line_on, is_of_sets}
 use Rattle.vk_order.specs.Edges.{unsignaled}

@@ -10,7 +10,7 @@ use Rattle.vk_model.proofs.Sync.Paths.{path_of_before, before_of_path, target}
 use Rattle.vk_order.specs.declared.acts.Row.{Row}
 use Rattle.vk_order.specs.declared.clocks.Stamp.{Stamp}
 use Rattle.vk_order.specs.declared.lines.Line.{Line}
-use Rattle.vk_order.specs.PointViews.{node_of, nodes_after}
+use Rattle.vk_order.specs.NodeViews.{node_of, nodes_after}
 use Rattle.vk_order.specs.Lines.{line_of}
 use Rattle.vk_order.specs.Inner.Kept.{clock_at, IsStamped}
 use Rattle.vk_order.specs.Inner.Places.{index_in}

@@ -13,7 +13,7 @@ use Rattle.vk_model.proofs.Lists.Members.{contains-head, contains-tail}
 use Rattle.vk_model.proofs.Sync.Numbers.{edge-older, edge-new, unique}
 use Rattle.vk_order.specs.declared.awaiting.Reach.{Reach}
 use Rattle.vk_order.specs.declared.acts.Row.{Row}
-use Rattle.vk_order.specs.PointViews.{node_of, nodes_after}
+use Rattle.vk_order.specs.NodeViews.{node_of, nodes_after}
 use Rattle.vk_order.specs.Queries.{led_to}
 use Rattle.vk_order.specs.Edges.{unsignaled}
 use Rattle.vk_order.specs.Inner.Reaches.{Reaches}

@@ -15,7 +15,7 @@ use Rattle.vk_order.specs.declared.acts.Row.{Row}
 use Rattle.vk_order.specs.declared.lines.Line.{Line}
 use Rattle.vk_order.specs.declared.fronts.Front.{Front}
 use Rattle.vk_order.specs.declared.names.Names.{Names}
-use Rattle.vk_order.specs.PointViews.{act_of}
+use Rattle.vk_order.specs.NodeViews.{act_of}
 use Rattle.vk_order.specs.Prefixes.{submits}
 use Rattle.vk_order.specs.Inner.Clocks.{IsWhole}
 use Rattle.vk_order.specs.Inner.Kept.{is_alone}

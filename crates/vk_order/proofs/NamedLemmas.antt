@@ -9,7 +9,7 @@ use Rattle.vk_model.proofs.Lists.Truths.{no}
 use Rattle.vk_model.proofs.Sync.Paths.{before_of_path}
 use Rattle.vk_order.specs.declared.acts.Row.{Row}
 use Rattle.vk_order.specs.declared.lines.Line.{Line}
-use Rattle.vk_order.specs.PointViews.{node_of, nodes_after}
+use Rattle.vk_order.specs.NodeViews.{node_of, nodes_after}
 use Rattle.vk_order.specs.Lines.{line_of, line_on}
 use Rattle.vk_order.specs.Inner.Kept.{is_alone}
 use Rattle.vk_order.proofs.LinePrefixes.{host_line, signal_line, host_edge, signal_edge}

@@ -14,7 +14,7 @@ use Rattle.vk_order.specs.declared.fronts.Front.{Front}
 use Rattle.vk_order.specs.declared.lines.Line.{Line}
 use Rattle.vk_order.specs.declared.lines.Line.TheVariants.{Host as OfHost, Commands as OfCommands, Signals as OfSignals, Elements as OfElements, Sets as OfSets, Waits as OfWaits}
 use Rattle.vk_order.specs.declared.tallies.LineTally.{LineTally}
-use Rattle.vk_order.specs.PointViews.{act_of}
+use Rattle.vk_order.specs.NodeViews.{act_of}
 use Rattle.vk_order.specs.Lines.{line_of, on_line, place}
 use Rattle.vk_order.specs.Inner.Counts.{zero_counts, count_in, counts_on, known_on, shows_of, made_visible_by, no_shows, hidden, with_clock, with_available, AreAvailable, AreVisible, AreCounted}
 use Rattle.vk_order.specs.Inner.Fronts.{clock_in, row_in, IsOwnFront}

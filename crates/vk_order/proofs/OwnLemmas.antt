@@ -14,7 +14,7 @@ use Rattle.vk_order.specs.declared.lines.Line.TheVariants.{Host as OfHost, Comma
 use Rattle.vk_order.specs.declared.counts.Counts.{Counts}
 use Rattle.vk_order.specs.declared.fronts.Front.{Front}
 use Rattle.vk_order.specs.declared.tallies.LineTally.{LineTally}
-use Rattle.vk_order.specs.PointViews.{act_of}
+use Rattle.vk_order.specs.NodeViews.{act_of}
 use Rattle.vk_order.specs.Lines.{class_of, same_line, on_line, place}
 use Rattle.vk_order.specs.Inner.Clocks.{IsClock}
 use Rattle.vk_order.specs.Inner.Counts.{zero_counts, counts_on, with_available, AreAvailable}

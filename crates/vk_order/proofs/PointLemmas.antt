@@ -12,8 +12,9 @@ use Rattle.vk_model.specs.Trace.Point as spec
 use Rattle.vk_model.specs.Sync.Node.{Node, Act, Role, Hosts, Waits, Signals, Runs, Depends, Barrier, SetOf, AwaitOf, acts, command_acts, same_place}
 use Rattle.vk_model.specs.Sync.Edge.{edge, siblings, is_element, waited_by, pairs}
 use Rattle.vk_order.specs.declared.acts.Row.{Row}
-use Rattle.vk_order.specs.declared.point.Point.{Point}
-use Rattle.vk_order.specs.PointViews.{act_of, action_of, point_of, node_of}
+use Rattle.vk_model.specs.declared.point.Point.{Point}
+use Rattle.vk_model.specs.Trace.PointViews.{action_of, point_of}
+use Rattle.vk_order.specs.NodeViews.{act_of, node_of}
 use Rattle.vk_order.specs.Queries.{IsNew}
 use Rattle.vk_order.specs.Inner.Tallies.{CanFollow}
 use Rattle.vk_model.proofs.Lists.Members.{place_has}

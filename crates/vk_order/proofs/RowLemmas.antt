@@ -4,9 +4,10 @@ use Rattle.std.proofs.lemmas.List.{drop_all, map-append, append-nil}
 use Rattle.vk_model.specs.Trace.Point as spec
 use Rattle.vk_model.specs.Sync.Node as sync
 use Rattle.vk_model.specs.Sync.Before.{IsNumbered}
-use Rattle.vk_order.specs.declared.point.Act.{Act}
+use Rattle.vk_order.specs.declared.act.Act.{Act}
 use Rattle.vk_order.specs.declared.acts.Row.{Row}
-use Rattle.vk_order.specs.PointViews.{act_of, point_of, node_of, nodes_after}
+use Rattle.vk_model.specs.Trace.PointViews.{point_of}
+use Rattle.vk_order.specs.NodeViews.{act_of, node_of, nodes_after}
 
 pub nodes_after-append : (ns : List sync.Node) (xs ys : List Row) → nodes_after ns (xs ++ ys) ≡ nodes_after (nodes_after ns xs) ys
 nodes_after-append ns [] ys = refl
@@ -43,7 +44,7 @@ pub row_acts-end : (acts : List Act) (k : ℕ) (rows : List Row) → length acts
 row_acts-end acts k rows le = rw (drop_all k acts le) (append-nil (map (λ (x : Row). act_of x.act) rows))
 
 -- what holds of each item of a list, and of one more
-pub row_push : (p : Rattle.vk_order.specs.declared.point.Point.Point) (rows : List Row) (r : Row) → ((i : ℕ) (x : Row) → Rattle.std.specs.Prelude.slice_get rows i ≡ Rattle.std.proofs.Common.Some x → x.point ≡ p) → r.point ≡ p
+pub row_push : (p : Rattle.vk_model.specs.declared.point.Point.Point) (rows : List Row) (r : Row) → ((i : ℕ) (x : Row) → Rattle.std.specs.Prelude.slice_get rows i ≡ Rattle.std.proofs.Common.Some x → x.point ≡ p) → r.point ≡ p
     → (i : ℕ) (x : Row) → Rattle.std.specs.Prelude.slice_get (rows ++ r ∷ []) i ≡ Rattle.std.proofs.Common.Some x → x.point ≡ p
 row_push p [] r all is zero x e = let same : r ≡ x = cc in ap (λ (y : Row). y.point) (sym same) ∙ is
 row_push p [] r all is (suc i) x e = absurd cc

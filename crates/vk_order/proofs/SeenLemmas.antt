@@ -15,7 +15,7 @@ use Rattle.vk_model.proofs.Sync.Numbers.{unique}
 use Rattle.vk_model.proofs.Sync.Paths.{before_of_path, path_of_before, joined, leads_on}
 use Rattle.vk_model.proofs.Sync.HostActs.{submit_host, flush_host, invalidation_host, same_available}
 use Rattle.vk_order.specs.declared.acts.Row.{Row}
-use Rattle.vk_order.specs.PointViews.{act_of, node_of, nodes_after}
+use Rattle.vk_order.specs.NodeViews.{act_of, node_of, nodes_after}
 use Rattle.vk_order.specs.Edges.{unsignaled, makes_available, makes_visible, made_available_by}
 use Rattle.vk_order.specs.Inner.Availability.{ends_by, is_after, IsUntil, IsLastInvalidation, IsFrom, IsInTime}
 use Rattle.vk_order.proofs.Arrange.{holds-false}

@@ -11,7 +11,7 @@ use Rattle.vk_model.proofs.Lists.Truths.{no}
 use Rattle.vk_model.proofs.Sync.Numbers.{number_below}
 use Rattle.vk_model.proofs.Sync.Paths.{edge_forward, leads_on}
 use Rattle.vk_order.specs.declared.acts.Row.{Row}
-use Rattle.vk_order.specs.PointViews.{act_of, node_of, nodes_after}
+use Rattle.vk_order.specs.NodeViews.{act_of, node_of, nodes_after}
 use Rattle.vk_order.specs.Lines.{line_of, class_of}
 use Rattle.vk_order.specs.Edges.{unsignaled}
 use Rattle.vk_order.specs.Inner.Kept.{IsSet}

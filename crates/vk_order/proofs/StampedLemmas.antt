@@ -10,7 +10,7 @@ use Rattle.vk_order.specs.declared.acts.Row.{Row}
 use Rattle.vk_order.specs.declared.clocks.Stamp.{Stamp}
 use Rattle.vk_order.specs.declared.fronts.Front.{Front}
 use Rattle.vk_order.specs.declared.lines.Line.{Line}
-use Rattle.vk_order.specs.PointViews.{act_of, node_of, nodes_after}
+use Rattle.vk_order.specs.NodeViews.{act_of, node_of, nodes_after}
 use Rattle.vk_order.specs.Lines.{class_of, class_on, place}
 use Rattle.vk_order.specs.Inner.Places.{index_in}
 use Rattle.vk_order.specs.Inner.Kept.{clock_at, IsStamp, IsStamped, IsLonger}

@@ -16,7 +16,7 @@ use Rattle.vk_order.specs.declared.lines.Line.{Line}
 use Rattle.vk_order.specs.declared.fronts.Front.{Front}
 use Rattle.vk_order.specs.declared.tallies.LineTally.{LineTally}
 use Rattle.vk_order.specs.declared.names.Names.{Names}
-use Rattle.vk_order.specs.PointViews.{act_of, node_of}
+use Rattle.vk_order.specs.NodeViews.{act_of, node_of}
 use Rattle.vk_order.specs.Lines.{line_of, class_of, class_on, is_of_sets, same_line, on_line, place}
 use Rattle.vk_order.specs.Inner.Leads.{line_leads}
 use Rattle.vk_order.specs.Inner.Links.{by_name}

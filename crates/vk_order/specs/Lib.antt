@@ -1,4 +1,4 @@
-pub mod PointViews
+pub mod NodeViews
 pub mod Bytes
 pub mod Units
 pub mod Queries

@@ -2,12 +2,12 @@ ghost use Rattle.std.specs.Prelude.{◌≡◌, ◌&&◌};
 ghost use Rattle.vk_model.specs.Basics.{has_some};
 ghost use Rattle.vk_order.specs.Lines.{has_transfer, has_host};
 ghost use Rattle.vk_model.specs.Sync.Seen.{Write, command_mask, host_mask};
-ghost use Rattle.vk_order.specs.PointViews.{act_of};
+ghost use Rattle.vk_order.specs.NodeViews.{act_of};
 ghost use Rattle.vk_order.specs.Wide.{access_of};
 ghost use Rattle.vk_order.specs.Inner.Rows.{makes_queue_available, makes_all_visible, makes_all_visible_on_host};
 
+use crate::act::Act;
 use crate::acts::TRANSFERS;
-use crate::point::Act;
 use bitflags::Flags;
 use vk_model::{Accesses, Dependency, Element, Stages};
 

@@ -3,12 +3,12 @@ ghost use Rattle.vk_model.specs.Basics.{holds, has_some};
 ghost use Rattle.vk_model.specs.World.Ownership.{dependency_of};
 ghost use Rattle.vk_model.specs.Sync.Edge as edge;
 ghost use Rattle.vk_model.specs.Sync.Edge.{by_host, by_stages, by_signal, by_all_commands, pairs};
-ghost use Rattle.vk_order.specs.PointViews.{act_of, node_of};
+ghost use Rattle.vk_order.specs.NodeViews.{act_of, node_of};
 ghost use Rattle.vk_order.specs.Edges.{unsignaled};
 
-use crate::point::{Act, Point};
+use crate::act::Act;
 use bitflags::Flags;
-use vk_model::{Element, Entry, Stages};
+use vk_model::{Element, Entry, Point, Stages};
 
 /// The stages of clears and copies: ALL_COMMANDS has TRANSFER.
 pub const TRANSFERS: Stages = Stages(Stages::TRANSFER.0 | Stages::ALL_COMMANDS.0);

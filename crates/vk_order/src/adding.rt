@@ -1,7 +1,7 @@
 ghost use Rattle.std.specs.Prelude.{◌≡◌, ◌++◌, [], List, IfOk, OnOk, length};
 ghost use Rattle.vk_order.specs.declared.acts.Row.{Row as AnyRow};
 ghost use Rattle.vk_order.specs.declared.clocks.Stamp.{Stamp as AnyStamp};
-ghost use Rattle.vk_order.specs.PointViews.{nodes_after};
+ghost use Rattle.vk_order.specs.NodeViews.{nodes_after};
 ghost use Rattle.vk_order.specs.Inner.Kept.{IsStamped};
 ghost use Rattle.vk_order.specs.Inner.Tallies.{lines_of, CanFollow, AreOnLines, AreFronts};
 ghost use Rattle.vk_order.specs.Frontiers.{IsFrontier};

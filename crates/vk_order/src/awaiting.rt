@@ -4,10 +4,10 @@ ghost use Rattle.vk_model.specs.Basics.{holds};
 ghost use Rattle.vk_model.specs.Sync.Node.{Node};
 ghost use Rattle.vk_model.specs.Trace.Order.{value_for};
 ghost use Rattle.vk_model.specs.Sync.Edge.{signaled_by, by_semaphore, initial_by};
-ghost use Rattle.vk_order.specs.PointViews.{act_of};
+ghost use Rattle.vk_order.specs.NodeViews.{act_of};
 ghost use Rattle.vk_order.specs.Inner.Reaches.{Reaches, is_awaited_at};
 
-use crate::point::Act;
+use crate::act::Act;
 use vk_model::{Entry, SemaphoreValue};
 
 /// A signal, and what else was signaled to its semaphore so far: which waits hang on it.

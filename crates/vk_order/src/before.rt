@@ -1,7 +1,7 @@
 ghost use Rattle.std.specs.Prelude.{◌≡◌, ◌<◌, ◌==◌, ◌&&◌, ◌||◌, [], ℕ, List, Some, length, slice_get};
 ghost use Rattle.vk_model.specs.Sync.Before.{before};
 ghost use Rattle.vk_order.specs.declared.acts.Row.{Row as AnyRow};
-ghost use Rattle.vk_order.specs.PointViews.{act_of, node_of, nodes_after};
+ghost use Rattle.vk_order.specs.NodeViews.{act_of, node_of, nodes_after};
 ghost use Rattle.vk_order.specs.Lines.{line_of};
 ghost use Rattle.vk_order.specs.Edges.{unsignaled};
 ghost use Rattle.vk_order.specs.Inner.Kept.{IsStamped, IsSet};

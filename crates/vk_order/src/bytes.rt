@@ -3,11 +3,11 @@ ghost use Rattle.vk_model.specs.Basics.{within};
 ghost use Rattle.vk_model.specs.World.Bytes as world;
 ghost use Rattle.vk_model.specs.World.Effect.{in_atoms, in_range};
 ghost use Rattle.vk_model.specs.Sync.Seen as seen;
-ghost use Rattle.vk_order.specs.PointViews.{act_of};
+ghost use Rattle.vk_order.specs.NodeViews.{act_of};
 ghost use Rattle.vk_order.specs.Bytes.{byte_of};
 
 use crate::access::Access;
-use crate::point::Act;
+use crate::act::Act;
 use vk_model::{Element, Entry, Length, SubresourceRange};
 
 /// A byte of a buffer, or of a texel of an image.

@@ -2,21 +2,21 @@ ghost use Rattle.std.specs.Prelude.{◌≡◌, ◌∷◌, ◌<◌, ◌≤◌, �
 ghost use Rattle.vk_model.specs.Sync.Node.{Node, Runs};
 ghost use Rattle.vk_model.specs.Sync.Before.{before};
 ghost use Rattle.vk_order.specs.declared.lines.Line.TheVariants.{Commands as OfCommands};
-ghost use Rattle.vk_order.specs.PointViews.{point_of};
+ghost use Rattle.vk_model.specs.Trace.PointViews.{point_of};
 ghost use Rattle.vk_order.specs.Lines.{line_of, place};
 ghost use Rattle.vk_order.specs.Inner.Fronts.{clock_in};
 ghost use Rattle.vk_order.specs.Inner.Kept.{clock_at};
 ghost use Rattle.vk_order.specs.Inner.Tallies.{lines_of};
 ghost use Rattle.vk_order.specs.Frontiers.{IsFrontier};
 
+use crate::act::Act;
 use crate::acts::Row;
 use crate::counts::counts_at;
 use crate::frontier::Frontier;
 use crate::lines::Line;
-use crate::point::{Act, Point};
 use crate::tallies::line_index;
 use std::alloc::AllocError;
-use vk_model::Cmd;
+use vk_model::{Cmd, Point};
 
 impl Frontier {
     /// Adds a clear or copy command that comes next, the only node of its point, and answers of each

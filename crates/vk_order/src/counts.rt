@@ -1,10 +1,10 @@
 ghost use Rattle.std.specs.Prelude.{◌≡◌, true, ◌<◌, ◌≤◌, ◌+◌, ◌^◌, ◌==◌, ℕ, IfOk, OnOk, max, length, slice_index_or, if◌then◌else◌, vec_len};
-ghost use Rattle.vk_order.specs.PointViews.{act_of};
+ghost use Rattle.vk_order.specs.NodeViews.{act_of};
 ghost use Rattle.vk_order.specs.Inner.Counts.{zero_counts, joined_counts, known_in, known_on, shows_of, made_visible_on, with_clock, with_available, hidden, covers, AreJoinedCounts};
 
 use crate::access::Access;
+use crate::act::Act;
 use crate::lines::Line;
-use crate::point::Act;
 use std::alloc::AllocError;
 
 /// How many nodes of a line are known to what comes after some nodes, and how: the first ones of the

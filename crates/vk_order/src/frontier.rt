@@ -3,7 +3,8 @@ ghost use Rattle.vk_model.specs.World.Bytes as world;
 ghost use Rattle.vk_model.specs.Sync.Node.{Node, acts, with_acts};
 ghost use Rattle.vk_model.specs.Sync.Edge.{edge};
 ghost use Rattle.vk_order.specs.declared.lines.Line.{Line as AnyLine};
-ghost use Rattle.vk_order.specs.PointViews.{action_of, act_of, point_of, node_of, nodes_after};
+ghost use Rattle.vk_model.specs.Trace.PointViews.{action_of, point_of};
+ghost use Rattle.vk_order.specs.NodeViews.{act_of, node_of, nodes_after};
 ghost use Rattle.vk_order.specs.Lines.{class_of, class_on, place, same_line};
 ghost use Rattle.vk_order.specs.Queries.{IsNew};
 ghost use Rattle.vk_order.specs.Wide.{IsApartFrom};
@@ -18,6 +19,7 @@ ghost use Rattle.vk_order.specs.Inner.Tallies.{lines_of, IsTallied, CanFollow, A
 ghost use Rattle.vk_order.specs.Inner.Names.{IsNames};
 ghost use Rattle.vk_order.specs.Frontiers.{IsFrontier, IsNewNode, IsFrom};
 
+use crate::act::{Act, single_act};
 use crate::acts::Row;
 use crate::bytes::Byte;
 use crate::clocks::count_at;
@@ -27,12 +29,12 @@ use crate::names::Names;
 use crate::new_node::NewNode;
 use crate::owning::{heard, own_front};
 use crate::parts::{Part, Parts, Spot};
-use crate::point::{Act, Point, single_act};
 use crate::rows::rows_of;
 use crate::tallies::{
     LineTally, index_of_act, join_of, line_index, lines_copied, list_line, tally,
 };
 use std::alloc::{AllocError, Global};
+use vk_model::Point;
 
 /// What is known of the nodes so far, for those that come next: of each line how many there are,
 /// and what comes after all of them; what comes after submits, signals and elements of sets, by

@@ -2,6 +2,7 @@
 #![tactic(auto)]
 
 mod access;
+mod act;
 mod acts;
 mod adding;
 mod awaiting;
@@ -20,7 +21,6 @@ mod new_node;
 mod owning;
 mod parts;
 mod places;
-mod point;
 mod points;
 mod reads;
 mod rows;
@@ -34,6 +34,7 @@ mod visible_prefix;
 mod writes;
 
 pub use access::Access;
+pub use act::Act;
 pub use acts::Row;
 pub use bytes::{Byte, ByteAccess};
 pub use frontier::Frontier;
@@ -45,7 +46,6 @@ pub use laws::{
 pub use lines::Line;
 pub use new_node::NewNode;
 pub use parts::{Part, Spot};
-pub use point::{Act, Action, Point};
 pub use points::Points;
 pub use rows::rows_of;
 pub use units::Units;

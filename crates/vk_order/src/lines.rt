@@ -1,13 +1,13 @@
 ghost use Rattle.std.specs.Prelude.{◌≡◌, IsTrue};
 ghost use Rattle.vk_order.specs.declared.lines.Line.TheVariants.{Commands as OfCommands};
-ghost use Rattle.vk_order.specs.PointViews.{act_of};
+ghost use Rattle.vk_order.specs.NodeViews.{act_of};
 ghost use Rattle.vk_order.specs.Lines.{class_on, element_class, same_line, is_of_sets};
 ghost use Rattle.vk_order.specs.Inner.Leads as leads;
 ghost use Rattle.vk_order.specs.Inner.Places.{index_in};
 
+use crate::act::Act;
 use crate::acts::{TRANSFERS, destination_stages, source_stages};
 use crate::places::{is_commands, is_elements};
-use crate::point::Act;
 use bitflags::Flags;
 use vk_model::Stages;
 

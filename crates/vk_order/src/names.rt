@@ -6,16 +6,16 @@ ghost use Rattle.vk_model.specs.Basics.{holds};
 ghost use Rattle.vk_model.specs.Sync.Node.{Node, Hosts};
 ghost use Rattle.vk_model.specs.Sync.Edge.{pairs, by_semaphore};
 ghost use Rattle.vk_order.specs.declared.lines.Line.{Line as AnyLine};
-ghost use Rattle.vk_order.specs.PointViews.{act_of, node_of};
+ghost use Rattle.vk_order.specs.NodeViews.{act_of, node_of};
 ghost use Rattle.vk_order.specs.Inner.Links.{by_name};
 ghost use Rattle.vk_order.specs.Inner.Fronts.{IsFront, IsNamed};
 ghost use Rattle.vk_order.specs.Inner.Names.{is_awaited_for, IsNameless, AreSubmits, AreSets, AreSignals, AreInitials, IsNames, IsNext};
 
+use crate::act::Act;
 use crate::acts::Row;
 use crate::awaiting::signal_of;
 use crate::fronts::{Front, named_with};
 use crate::keyed::Keyed;
-use crate::point::Act;
 use std::alloc::{AllocError, Global};
 use std::collections::BTreeMap;
 use vk_ids::IdMap;

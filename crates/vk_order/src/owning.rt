@@ -2,7 +2,7 @@ ghost use Rattle.std.specs.Prelude.{◌≡◌, ◌∷◌, ◌+◌, ◌<◌, ◌�
 ghost use Rattle.vk_model.specs.Basics.{holds};
 ghost use Rattle.vk_model.specs.Sync.Node.{Node};
 ghost use Rattle.vk_order.specs.declared.lines.Line.{Line as AnyLine};
-ghost use Rattle.vk_order.specs.PointViews.{act_of};
+ghost use Rattle.vk_order.specs.NodeViews.{act_of};
 ghost use Rattle.vk_order.specs.Lines.{class_of, class_on, same_line, place};
 ghost use Rattle.vk_order.specs.Inner.Counts.{shows_of, no_shows, AreAvailable, AreVisible, AreCounted};
 ghost use Rattle.vk_order.specs.Inner.Places.{index_in};
@@ -10,11 +10,11 @@ ghost use Rattle.vk_order.specs.Inner.Rows.{makes_line_available, IsMerged};
 ghost use Rattle.vk_order.specs.Inner.Fronts.{IsOwnFront};
 ghost use Rattle.vk_order.specs.Inner.Tallies.{lines_of, IsTallied, IsComing};
 
+use crate::act::Act;
 use crate::acts::Row;
 use crate::counts::{Counts, Shows, hide, known_at, put_available, put_clock, shows_of};
 use crate::fronts::Front;
 use crate::lines::Line;
-use crate::point::Act;
 use crate::tallies::{LineTally, line_index};
 use std::alloc::{AllocError, Global};
 use vk_model::Entry;

@@ -4,14 +4,15 @@ ghost use Rattle.vk_model.specs.Sync.Before.{before};
 ghost use Rattle.vk_model.specs.Sync.Edge.{by_semaphore};
 ghost use Rattle.vk_model.specs.Sync.Seen.{seen};
 ghost use Rattle.vk_model.specs.World.Bytes as world;
-ghost use Rattle.vk_order.specs.PointViews.{action_of, act_of, point_of, node_of, nodes_after};
+ghost use Rattle.vk_model.specs.Trace.PointViews.{action_of, point_of};
+ghost use Rattle.vk_order.specs.NodeViews.{act_of, node_of, nodes_after};
 ghost use Rattle.vk_order.specs.Bytes.{byte_of};
 ghost use Rattle.vk_order.specs.Wide.{access_of};
 ghost use Rattle.vk_order.specs.declared.acts.Row.{Row as AnyRow};
 ghost use Rattle.vk_order.specs.Edges.{unsignaled};
 ghost use Rattle.vk_order.specs.Inner.Reaches.{Reaches};
 ghost use Rattle.vk_order.specs.Queries.{led_to, IsNew};
-ghost use Rattle.vk_order.specs.declared.point.Action.TheVariants.{Host};
+ghost use Rattle.vk_model.specs.declared.point.Action.TheVariants.{Host};
 
 use crate::acts::Row;
 use crate::adding::stamped;
@@ -21,11 +22,11 @@ use crate::bytes::ByteAccess;
 use crate::clocks::Stamp;
 use crate::frontier::Frontier;
 use crate::lines::Line;
-use crate::point::Point;
 use crate::rows::rows_of;
 use crate::seen::is_seen;
 use std::alloc::{AllocError, Global};
 use std::marker::Model;
+use vk_model::Point;
 
 /// The points so far, and the order of their nodes: which node comes before which.
 ///
@@ -45,7 +46,7 @@ pub struct Points<'a> {
 impl<'a> Model for Points<'a> {
     ghost use Rattle.std.specs.Prelude.{List, []};
     ghost use Rattle.vk_model.specs.Sync.Node.{Node};
-    ghost use Rattle.vk_order.specs.PointViews.{nodes_after};
+    ghost use Rattle.vk_order.specs.NodeViews.{nodes_after};
 
     ghost Value = { List Node };
 

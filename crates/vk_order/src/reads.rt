@@ -4,19 +4,19 @@ ghost use Rattle.vk_model.specs.Sync.Edge.{is_host};
 ghost use Rattle.vk_model.specs.Sync.Before.{before};
 ghost use Rattle.vk_model.specs.Sync.Seen as seen;
 ghost use Rattle.vk_order.specs.declared.acts.Row.{Row as AnyRow};
-ghost use Rattle.vk_order.specs.PointViews.{act_of, node_of, nodes_after};
+ghost use Rattle.vk_order.specs.NodeViews.{act_of, node_of, nodes_after};
 ghost use Rattle.vk_order.specs.Bytes.{byte_of};
 ghost use Rattle.vk_order.specs.Wide.{access_of};
 ghost use Rattle.vk_order.specs.Inner.Kept.{IsStamped};
 ghost use Rattle.vk_order.specs.Inner.Availability.{serves, IsUntil, IsFirstFlush, IsLastInvalidation};
 
 use crate::access::Access;
+use crate::act::Act;
 use crate::acts::{Row, destination_stages};
 use crate::before::is_before;
 use crate::bytes::{Byte, ByteAccess};
 use crate::clocks::Stamp;
 use crate::lines::Line;
-use crate::point::Act;
 use bitflags::Flags;
 use vk_model::Stages;
 

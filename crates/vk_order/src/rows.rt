@@ -1,11 +1,13 @@
 ghost use Rattle.std.specs.Prelude.{◌≡◌, ℕ, IfOk, List, Some, map, slice_get};
 ghost use Rattle.vk_model.specs.Sync.Node.{Node, acts, with_acts};
-ghost use Rattle.vk_order.specs.PointViews.{action_of, act_of, point_of, nodes_after};
+ghost use Rattle.vk_model.specs.Trace.PointViews.{action_of, point_of};
+ghost use Rattle.vk_order.specs.NodeViews.{act_of, nodes_after};
 ghost use Rattle.vk_order.specs.declared.acts.Row.{Row as AnyRow};
 
+use crate::act::acts_of;
 use crate::acts::Row;
-use crate::point::{Point, acts_of};
 use std::alloc::{AllocError, Global};
+use vk_model::Point;
 
 /// The rows of a point, in order.
 #[tactic(auto, using(crate::proofs::RowLemmas::rows_pushed))]

@@ -7,7 +7,7 @@ ghost use Rattle.vk_model.specs.Sync.Before.{before};
 ghost use Rattle.vk_model.specs.Sync.Seen.{seen};
 ghost use Rattle.vk_order.specs.declared.acts.Row.{Row as AnyRow};
 ghost use Rattle.vk_order.specs.declared.writes.First.{First as AnyFirst};
-ghost use Rattle.vk_order.specs.PointViews.{act_of, node_of, nodes_after};
+ghost use Rattle.vk_order.specs.NodeViews.{act_of, node_of, nodes_after};
 ghost use Rattle.vk_order.specs.Bytes.{byte_of};
 ghost use Rattle.vk_order.specs.Wide.{access_of};
 ghost use Rattle.vk_order.specs.Inner.Kept.{IsStamped};

@@ -2,18 +2,18 @@ ghost use Rattle.std.specs.Prelude.{◌≡◌, ◌⊎◌, ◌∷◌, ◌++◌, �
 ghost use Rattle.vk_model.specs.Sync.Node.{Node};
 ghost use Rattle.vk_order.specs.declared.acts.Row.{Row as AnyRow};
 ghost use Rattle.vk_order.specs.declared.lines.Line.TheVariants.{Commands as OfCommands};
-ghost use Rattle.vk_order.specs.PointViews.{act_of};
+ghost use Rattle.vk_order.specs.NodeViews.{act_of};
 ghost use Rattle.vk_order.specs.Lines.{class_of, class_on};
 ghost use Rattle.vk_order.specs.Inner.Leads.{line_leads};
 ghost use Rattle.vk_order.specs.Inner.Places.{index_in};
 ghost use Rattle.vk_order.specs.Inner.Fronts.{IsFront, IsOwnFront};
 ghost use Rattle.vk_order.specs.Inner.Tallies.{lines_of, IsTallied, IsComing};
 
+use crate::act::Act;
 use crate::acts::Row;
 use crate::fronts::Front;
 use crate::lines::Line;
 use crate::places::{is_commands, is_elements};
-use crate::point::Act;
 use std::alloc::{AllocError, Global};
 
 /// What is known of a line.

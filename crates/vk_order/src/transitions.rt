@@ -5,7 +5,8 @@ ghost use Rattle.vk_model.specs.Sync.Edge.{edge, is_command};
 ghost use Rattle.vk_model.specs.Sync.Before.{IsNumbered};
 ghost use Rattle.vk_model.specs.Sync.Seen.{Access as AnyAccess, seen, makes_writes_available};
 ghost use Rattle.vk_order.specs.declared.parts.Part.{Part as AnyPart};
-ghost use Rattle.vk_order.specs.PointViews.{act_of, point_of};
+ghost use Rattle.vk_model.specs.Trace.PointViews.{point_of};
+ghost use Rattle.vk_order.specs.NodeViews.{act_of};
 ghost use Rattle.vk_order.specs.Bytes.{byte_of};
 ghost use Rattle.vk_order.specs.Lines.{line_of, place};
 ghost use Rattle.vk_order.specs.Limited.{is_limited, Reaches, IsWrite};
@@ -16,15 +17,16 @@ ghost use Rattle.vk_order.specs.Frontiers.{IsFrontier, IsNewNode, IsFrom, MayBeK
 ghost use Rattle.vk_order.specs.SeenWrites.{SaysSeenAt};
 ghost use Rattle.vk_order.specs.Units.{HaveNumbers, unit_byte, units_resource};
 
+use crate::act::Act;
 use crate::acts::Row;
 use crate::bytes::Byte;
 use crate::frontier::Frontier;
 use crate::new_node::NewNode;
 use crate::parts::{Part, Spot, parts_from};
-use crate::point::{Act, Point};
 use crate::units::{Units, element_until};
 use crate::unseen::parts_until;
 use std::alloc::AllocError;
+use vk_model::Point;
 
 impl Frontier {
     /// What is known at a node that comes next, with this act and as a new node, where it is a

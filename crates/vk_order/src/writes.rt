@@ -2,17 +2,17 @@ ghost use Rattle.std.specs.Prelude.{◌≡◌, ◌<◌, ◌&&◌, [], ℕ, IfOk,
 ghost use Rattle.vk_model.specs.World.Ownership as ownership;
 ghost use Rattle.vk_order.specs.declared.acts.Row.{Row as AnyRow};
 ghost use Rattle.vk_order.specs.declared.writes.First.{First as AnyFirst};
-ghost use Rattle.vk_order.specs.PointViews.{act_of, node_of, nodes_after};
+ghost use Rattle.vk_order.specs.NodeViews.{act_of, node_of, nodes_after};
 ghost use Rattle.vk_order.specs.Bytes.{byte_of};
 ghost use Rattle.vk_order.specs.Lines.{line_of, same_line};
 ghost use Rattle.vk_order.specs.Edges.{unsignaled, makes_available, makes_visible};
 ghost use Rattle.vk_order.specs.Inner.Availability.{makes_write_available, is_carried, is_marked, is_set_element, comes_after_sets, HasSets, AreFirsts};
 
 use crate::access::Access;
+use crate::act::Act;
 use crate::acts::Row;
 use crate::bytes::{Byte, covers};
 use crate::lines::Line;
-use crate::point::Act;
 use bitflags::Flags;
 use std::alloc::{AllocError, Global};
 use vk_model::{Accesses, Element, Families};

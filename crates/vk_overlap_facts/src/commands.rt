@@ -7,8 +7,9 @@ ghost use Rattle.vk_overlap_facts.specs.Inner.Areas.{area_of};
 
 use crate::areas::Area;
 use std::alloc::{AllocError, Global};
-use vk_model::{BufferCopy, BufferImageCopy, Cmd, Format, ImageCopy, Length, SubresourceRange};
-use vk_order::Point;
+use vk_model::{
+    BufferCopy, BufferImageCopy, Cmd, Format, ImageCopy, Length, Point, SubresourceRange,
+};
 use vk_overlaps::{destination_box, region_box, source_box};
 use vk_past::{image, size};
 

@@ -2,7 +2,7 @@ ghost use Rattle.std.specs.Prelude.{◌≡◌, ◌∷◌, IfOk, IfSome, is_some}
 ghost use Rattle.vk_model.specs.Trace.Point as spec;
 ghost use Rattle.vk_model.specs.World.Areas as areas;
 ghost use Rattle.vk_model.specs.Rules.Ranges as rules;
-ghost use Rattle.vk_order.specs.PointViews.{action_of, point_of};
+ghost use Rattle.vk_model.specs.Trace.PointViews.{action_of, point_of};
 ghost use Rattle.vk_queues.specs.PointViews.{past_of};
 ghost use Rattle.vk_overlap_facts.specs.Parts.{IsOverlap, IsOverlapIn};
 ghost use Rattle.vk_overlap_facts.specs.Overlaps.{IsFound};
@@ -13,8 +13,7 @@ use crate::lists::listed_twice;
 use crate::pairs::{Overlap, overlap_among};
 use crate::transitions::{elements_of, transitions_overlap};
 use std::alloc::{AllocError, Global};
-use vk_model::Cmd;
-use vk_order::{Action, Point};
+use vk_model::{Action, Cmd, Point};
 use vk_past::split_of;
 
 /// Which two parts of the last of some points overlap, where that point breaks OVERLAP, and what they

@@ -10,8 +10,8 @@ use Rattle.vk_model.specs.Trace.Point.{Past, Point, entries, host_of}
 use Rattle.vk_model.specs.Trace.Objects.{made_by}
 use Rattle.vk_model.specs.Rules.Passes.{pool_of_defrag, is_of_pool, has_defrag, some_pass, pool_in_pass, in_pass}
 use Rattle.vk_model.proofs.Lists.Members.{any_same, only_one}
-use Rattle.vk_order.specs.declared.point.Point.{Point as ProgramPoint}
-use Rattle.vk_order.specs.PointViews.{point_of}
+use Rattle.vk_model.specs.declared.point.Point.{Point as ProgramPoint}
+use Rattle.vk_model.specs.Trace.PointViews.{point_of}
 use Rattle.vk_queues.specs.PointViews.{past_of}
 use Rattle.vk_past.proofs.PastLemmas.{past_item}
 use Rattle.vk_pass_facts.specs.declared.defrags.OpenDefrag.{OpenDefrag}

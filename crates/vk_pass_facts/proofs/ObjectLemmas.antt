@@ -5,8 +5,8 @@ use Rattle.std.specs.List.{find}
 use Rattle.vk_model.specs.Trace.Point.{Past, on_host}
 use Rattle.vk_model.specs.Trace.Objects.{ended, defrag_in}
 use Rattle.vk_model.specs.Rules.Passes.{pool_of_defrag}
-use Rattle.vk_order.specs.declared.point.Point.{Point as ProgramPoint}
-use Rattle.vk_order.specs.PointViews.{point_of}
+use Rattle.vk_model.specs.declared.point.Point.{Point as ProgramPoint}
+use Rattle.vk_model.specs.Trace.PointViews.{point_of}
 use Rattle.vk_past.proofs.CreatorLemmas.{made_is}
 use Rattle.vk_pass_facts.specs.declared.defrags.OpenDefrag.{OpenDefrag}
 use Rattle.vk_pass_facts.specs.Defrags.{IsOpenDefrag, makes}

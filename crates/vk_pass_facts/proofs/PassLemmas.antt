@@ -8,8 +8,8 @@ use Rattle.vk_model.specs.declared.entry.Entry.{Entry}
 use Rattle.vk_model.specs.Basics.{holds}
 use Rattle.vk_model.specs.Trace.Point.{Past, Point, host_of, entries, on_host}
 use Rattle.vk_model.specs.Rules.Passes.{count_of, in_pass, begins, finishes}
-use Rattle.vk_order.specs.declared.point.Point.{Point as ProgramPoint}
-use Rattle.vk_order.specs.PointViews.{point_of}
+use Rattle.vk_model.specs.declared.point.Point.{Point as ProgramPoint}
+use Rattle.vk_model.specs.Trace.PointViews.{point_of}
 use Rattle.vk_queues.specs.PointViews.{past_of}
 use Rattle.vk_past.proofs.PastLemmas.{past_item}
 use Rattle.vk_pass_facts.specs.Defrags.{begins_pass}

@@ -16,7 +16,7 @@ use Rattle.vk_model.proofs.Lists.Truths.{clash}
 use Rattle.vk_model.proofs.Sync.Numbers.{numbered}
 use Rattle.vk_model.proofs.Sync.NewNodes.{low_numbers}
 use Rattle.vk_order.specs.declared.acts.Row.{Row}
-use Rattle.vk_order.specs.PointViews.{node_of, nodes_after}
+use Rattle.vk_order.specs.NodeViews.{node_of, nodes_after}
 use Rattle.vk_order.proofs.NamedLemmas.{node_there}
 use Rattle.vk_order.proofs.BeforeLemmas.{node_row}
 use Rattle.vk_pass_facts.specs.declared.named.Spot.{Spot}

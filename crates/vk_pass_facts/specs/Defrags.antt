@@ -6,7 +6,7 @@ use Rattle.vk_model.specs.Basics.{holds}
 use Rattle.vk_model.specs.Trace.Point.{Past, on_host}
 use Rattle.vk_model.specs.Trace.Objects.{made_by, pool_of}
 use Rattle.vk_model.specs.Rules.Passes.{begins, in_pass, pool_of_defrag}
-use Rattle.vk_order.specs.PointViews.{point_of}
+use Rattle.vk_model.specs.Trace.PointViews.{point_of}
 use Rattle.vk_pass_facts.specs.declared.defrags.OpenDefrag.{OpenDefrag}
 use Rattle.vk_pass_facts.specs.declared.passes.OpenPass.{OpenPass}
 use Rattle.vk_pass_facts.specs.declared.moving.MovingResource.{MovingResource}

@@ -11,7 +11,7 @@ use crate::objects::Objects;
 use crate::passes::{DefragPass, OpenPass, open_pass, pass_among, pass_of_pool};
 use std::alloc::{AllocError, Global};
 use std::marker::Model;
-use vk_order::Point;
+use vk_model::Point;
 
 /// The points before one that is refused, with the objects that they made, and the defragmentations
 /// that haven't ended. Contracts see the points, the newest first.

@@ -3,7 +3,7 @@ ghost use Rattle.vk_model.specs.declared.entry.Entry.{Entry as AnyEntry};
 ghost use Rattle.vk_model.specs.Trace.Point as spec;
 ghost use Rattle.vk_model.specs.Trace.Point.{Host, host_of};
 ghost use Rattle.vk_model.specs.Rules.Passes as rules;
-ghost use Rattle.vk_order.specs.PointViews.{action_of, point_of};
+ghost use Rattle.vk_model.specs.Trace.PointViews.{action_of, point_of};
 ghost use Rattle.vk_queues.specs.PointViews.{past_of};
 ghost use Rattle.vk_pass_facts.specs.Busy.{IsBusyResource};
 ghost use Rattle.vk_pass_facts.specs.Inner.Uses.{IsIncomplete, IsTimeline};
@@ -13,8 +13,7 @@ use crate::candidates::{Candidate, candidate_of};
 use crate::submitted::is_submitted;
 use crate::timeline::Timeline;
 use std::alloc::{AllocError, Global};
-use vk_model::{At, Entry};
-use vk_order::{Action, Point};
+use vk_model::{Action, At, Entry, Point};
 
 /// PASS_BUSY: a resource of the pool of a pass, and a submitted command that uses it and isn't known
 /// complete.

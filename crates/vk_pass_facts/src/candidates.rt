@@ -3,8 +3,7 @@ use crate::named::{Named, Spot, named_by, named_by_element, used_by};
 use crate::timeline::Timeline;
 use std::alloc::{AllocError, Global};
 use std::collections::BTreeSet;
-use vk_model::{Batch, Cmd, Element, Entry};
-use vk_order::{Action, Point};
+use vk_model::{Action, Batch, Cmd, Element, Entry, Point};
 
 /// A command that may use a resource and not be known complete.
 #[derive(Clone, Copy)]

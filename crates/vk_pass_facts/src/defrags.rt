@@ -3,15 +3,14 @@ ghost use Rattle.std.specs.List.{list_any};
 ghost use Rattle.vk_model.specs.Basics.{holds};
 ghost use Rattle.vk_model.specs.Trace.Point.{Past};
 ghost use Rattle.vk_model.specs.Rules.Passes.{pool_of_defrag};
-ghost use Rattle.vk_order.specs.PointViews.{point_of};
+ghost use Rattle.vk_model.specs.Trace.PointViews.{point_of};
 ghost use Rattle.vk_queues.specs.PointViews.{past_of};
 ghost use Rattle.vk_pass_facts.specs.Defrags.{IsOpenDefrag};
 ghost use Rattle.vk_pass_facts.specs.Inner.Kept.{AreObjects, AreDefrags, made_at, pool_begun};
 
 use crate::objects::Objects;
 use std::alloc::{AllocError, Global};
-use vk_model::Entry;
-use vk_order::{Action, Point};
+use vk_model::{Action, Entry, Point};
 
 /// A defragmentation that hasn't ended.
 #[derive(Clone, Copy)]

@@ -4,13 +4,12 @@ ghost use Rattle.std.specs.BTreeSet.{contains};
 ghost use Rattle.vk_model.specs.Basics.{among};
 ghost use Rattle.vk_model.specs.Trace.Objects as objects;
 ghost use Rattle.vk_model.specs.Trace.Point.{Past};
-ghost use Rattle.vk_order.specs.PointViews.{point_of};
+ghost use Rattle.vk_model.specs.Trace.PointViews.{point_of};
 ghost use Rattle.vk_pass_facts.specs.Inner.Kept.{AreEnded};
 
 use std::alloc::{AllocError, Global};
 use std::collections::BTreeSet;
-use vk_model::Entry;
-use vk_order::{Action, Point};
+use vk_model::{Action, Entry, Point};
 
 /// The ids that ended.
 #[derive(Drop)]

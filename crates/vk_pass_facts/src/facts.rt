@@ -1,7 +1,7 @@
 ghost use Rattle.std.specs.Prelude.{◌≡◌, ◌∷◌, IfOk};
 ghost use Rattle.vk_model.specs.Trace.Point as spec;
 ghost use Rattle.vk_model.specs.declared.rule.Rule.TheVariants as rule;
-ghost use Rattle.vk_order.specs.PointViews.{point_of};
+ghost use Rattle.vk_model.specs.Trace.PointViews.{point_of};
 ghost use Rattle.vk_queues.specs.PointViews.{past_of};
 ghost use Rattle.vk_pass_facts.specs.Facts.{IsFound};
 
@@ -11,8 +11,7 @@ use crate::moving::MovingResource;
 use crate::states::{PassState, pass_state_of};
 use crate::writes::pass_write_of;
 use std::alloc::{AllocError, Global};
-use vk_model::Rule;
-use vk_order::Point;
+use vk_model::{Point, Rule};
 use vk_past::split_of;
 
 /// What is so of a point that doesn't fit the passes of defragmentations.

@@ -2,7 +2,7 @@ ghost use Rattle.std.specs.Prelude.{◌≡◌, ◌∷◌, [], ℕ};
 ghost use Rattle.vk_model.specs.Basics.{among, option_list};
 ghost use Rattle.vk_model.specs.World.Ownership as ownership;
 ghost use Rattle.vk_model.specs.Sync.Complete.{named_by_act};
-ghost use Rattle.vk_order.specs.PointViews.{act_of};
+ghost use Rattle.vk_order.specs.NodeViews.{act_of};
 ghost use Rattle.vk_pass_facts.specs.Inner.Uses.{has};
 
 use vk_model::{Cmd, Element};

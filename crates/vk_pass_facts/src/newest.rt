@@ -2,13 +2,13 @@ ghost use Rattle.std.specs.Prelude.{◌≡◌, ◌∷◌, ◌==◌, [], ℕ, Lis
 ghost use Rattle.std.specs.Ordering.{nat_cmp};
 ghost use Rattle.std.specs.BTreeMap.{get};
 ghost use Rattle.vk_model.specs.Sync.Node.{Node, acts, with_acts};
-ghost use Rattle.vk_order.specs.PointViews.{action_of, point_of};
+ghost use Rattle.vk_model.specs.Trace.PointViews.{action_of, point_of};
 ghost use Rattle.vk_order.specs.Queries.{IsNew};
 ghost use Rattle.vk_pass_facts.specs.Inner.Uses.{AreNewest, is_within};
 
 use std::alloc::{AllocError, Global};
 use std::collections::BTreeMap;
-use vk_order::{Action, Point};
+use vk_model::{Action, Point};
 
 /// The batch and the place of the last command of each entry.
 #[derive(Drop)]

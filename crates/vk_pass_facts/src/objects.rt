@@ -3,7 +3,7 @@ ghost use Rattle.vk_model.specs.Trace.Objects as spec;
 ghost use Rattle.vk_model.specs.Trace.Point.{Past};
 ghost use Rattle.vk_model.specs.World.ByteWrites.{buffer_size};
 ghost use Rattle.vk_model.specs.Rules.Passes.{pool_of_defrag};
-ghost use Rattle.vk_order.specs.PointViews.{point_of};
+ghost use Rattle.vk_model.specs.Trace.PointViews.{point_of};
 ghost use Rattle.vk_queues.specs.PointViews.{past_of};
 ghost use Rattle.vk_pass_facts.specs.Defrags.{IsOpenDefrag};
 ghost use Rattle.vk_pass_facts.specs.Inner.Kept.{AreObjects};
@@ -11,8 +11,7 @@ ghost use Rattle.vk_pass_facts.specs.Inner.Kept.{AreObjects};
 use crate::defrags::{OpenDefrag, defrag_made};
 use crate::ended::Ended;
 use std::alloc::{AllocError, Global};
-use vk_model::{Entry, Place};
-use vk_order::Point;
+use vk_model::{Entry, Place, Point};
 use vk_past::{Creators, pool_at};
 
 /// Of each id the last point that made it, and whether it ended.

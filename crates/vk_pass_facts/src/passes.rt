@@ -3,14 +3,13 @@ ghost use Rattle.std.specs.List.{find, list_any};
 ghost use Rattle.vk_model.specs.Basics.{holds};
 ghost use Rattle.vk_model.specs.Trace.Point.{host_of, on_host};
 ghost use Rattle.vk_model.specs.Rules.Passes.{count_of, in_pass};
-ghost use Rattle.vk_order.specs.PointViews.{action_of, point_of};
+ghost use Rattle.vk_model.specs.Trace.PointViews.{action_of, point_of};
 ghost use Rattle.vk_queues.specs.PointViews.{past_of};
 ghost use Rattle.vk_pass_facts.specs.Defrags.{IsOpenPass, begins_pass};
 ghost use Rattle.vk_pass_facts.specs.Inner.Forms.{form_of, is_form};
 
 use crate::defrags::OpenDefrag;
-use vk_model::Entry;
-use vk_order::{Action, Point};
+use vk_model::{Action, Entry, Point};
 
 /// A pass that has begun and not ended.
 #[derive(Clone, Copy)]

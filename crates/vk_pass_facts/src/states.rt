@@ -1,14 +1,13 @@
 ghost use Rattle.std.specs.Prelude.{◌≡◌, IfSome, not, is_some};
 ghost use Rattle.vk_model.specs.Rules.Passes as rules;
-ghost use Rattle.vk_order.specs.PointViews.{action_of, point_of};
+ghost use Rattle.vk_model.specs.Trace.PointViews.{action_of, point_of};
 ghost use Rattle.vk_pass_facts.specs.PassStates.{IsNoPass, IsPassState, IsPassStateBy};
 
 use crate::before::Before;
 use crate::defrags::OpenDefrag;
 use crate::moving::MovingResource;
 use crate::passes::OpenPass;
-use vk_model::Entry;
-use vk_order::{Action, Point};
+use vk_model::{Action, Entry, Point};
 
 /// PASS_STATE: what an entry doesn't fit.
 #[derive(Clone, Copy)]

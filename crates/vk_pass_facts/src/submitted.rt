@@ -4,13 +4,12 @@ ghost use Rattle.vk_model.specs.Basics.{among, option_list};
 ghost use Rattle.vk_model.specs.Trace.Point.{Run};
 ghost use Rattle.vk_model.specs.World.Ownership as ownership;
 ghost use Rattle.vk_model.specs.Sync.Complete.{names};
-ghost use Rattle.vk_order.specs.PointViews.{point_of};
+ghost use Rattle.vk_model.specs.Trace.PointViews.{point_of};
 ghost use Rattle.vk_queues.specs.PointViews.{past_of};
 ghost use Rattle.vk_pass_facts.specs.Inner.Submits.{IsCommandAt, IsNaming, IsSubmit, IsSubmitted};
 
 use crate::named::{Spot, named_by_element, used_by};
-use vk_model::{Batch, Cmd, Element, Entry};
-use vk_order::{Action, Point};
+use vk_model::{Action, Batch, Cmd, Element, Entry, Point};
 
 /// Whether some points submit a command at a place that names a resource.
 pub fn is_submitted(points: &[Point<'_>], spot: Spot, resource: u32) -> bool

@@ -3,14 +3,16 @@ ghost use Rattle.vk_model.specs.declared.entry.Entry.{Entry as AnyEntry};
 ghost use Rattle.vk_model.specs.Trace.Point.{Past, Host};
 ghost use Rattle.vk_model.specs.Trace.Point as spec;
 ghost use Rattle.vk_model.specs.Sync.Node.{nodes};
-ghost use Rattle.vk_order.specs.PointViews.{node_of, point_of};
+ghost use Rattle.vk_model.specs.Trace.PointViews.{point_of};
+ghost use Rattle.vk_order.specs.NodeViews.{node_of};
 ghost use Rattle.vk_queues.specs.PointViews.{past_of};
 ghost use Rattle.vk_pass_facts.specs.Inner.Uses.{IsIncomplete, IsTimeline, at_spot, uses_at};
 
 use crate::named::{Spot, named_by};
 use crate::newest::Newest;
 use std::alloc::{AllocError, Global};
-use vk_order::{Point, Points, Row};
+use vk_model::Point;
+use vk_order::{Points, Row};
 use vk_past::all_rows;
 
 /// The nodes of points, and their order.

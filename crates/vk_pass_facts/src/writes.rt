@@ -5,7 +5,7 @@ ghost use Rattle.vk_model.specs.Rules.Passes as rules;
 ghost use Rattle.vk_model.specs.Sync.Node.{command_acts};
 ghost use Rattle.vk_model.specs.Sync.Access.{transition_bytes};
 ghost use Rattle.vk_model.specs.World.Bytes.{resource_at};
-ghost use Rattle.vk_order.specs.PointViews.{action_of, point_of};
+ghost use Rattle.vk_model.specs.Trace.PointViews.{action_of, point_of};
 ghost use Rattle.vk_pass_facts.specs.Defrags.{IsMoving};
 ghost use Rattle.vk_pass_facts.specs.Inner.Written.{acts_write};
 ghost use Rattle.vk_pass_facts.specs.Writes.{IsPassWrite};
@@ -14,8 +14,7 @@ use crate::before::Before;
 use crate::moving::MovingResource;
 use crate::written::{written_by_command, written_by_element};
 use vk_laws::written_by_host;
-use vk_model::{Cmd, Element};
-use vk_order::{Action, Point};
+use vk_model::{Action, Cmd, Element, Point};
 
 /// PASS_WRITE: the first resource that a point writes while a pass of its pool is open.
 pub fn pass_write_of<'a>(before: &Before<'_, 'a>, point: &Point<'a>) -> Option<MovingResource<'a>>

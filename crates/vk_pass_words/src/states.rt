@@ -1,5 +1,5 @@
 use std::alloc::AllocError;
-use vk_order::Point;
+use vk_model::Point;
 use vk_pass_facts::{MovingResource, OpenDefrag, OpenPass, PassState};
 use vk_past::at_of;
 use vk_words::push_at;

@@ -6,8 +6,8 @@ use Rattle.std.proofs.lemmas.List.Sums.{fold_more, fold-append}
 use Rattle.std.proofs.lemmas.Option.{slice_get_read}
 use Rattle.vk_model.specs.Trace.Point.{Past, Point}
 use Rattle.vk_model.proofs.Lists.Members.{contains-head, contains-tail}
-use Rattle.vk_order.specs.declared.point.Point.{Point as ProgramPoint}
-use Rattle.vk_order.specs.PointViews.{point_of}
+use Rattle.vk_model.specs.declared.point.Point.{Point as ProgramPoint}
+use Rattle.vk_model.specs.Trace.PointViews.{point_of}
 use Rattle.vk_queues.specs.PointViews.{add, past_after, past_of}
 
 -- the past of one point more

@@ -9,8 +9,8 @@ use Rattle.vk_model.specs.Trace.Point.{Past, Point, at_of}
 use Rattle.vk_model.specs.Trace.Order.{order}
 use Rattle.vk_model.specs.Rules.Fault.{Comes, newest, older}
 use Rattle.vk_model.specs.Sync.Node.{nodes}
-use Rattle.vk_order.specs.declared.point.Point.{Point as Given}
-use Rattle.vk_order.specs.PointViews.{point_of}
+use Rattle.vk_model.specs.declared.point.Point.{Point as Given}
+use Rattle.vk_model.specs.Trace.PointViews.{point_of}
 use Rattle.vk_order.specs.Places.{IsApart}
 use Rattle.vk_order.specs.Queries.{IsNew}
 use Rattle.vk_queues.specs.PointViews.{past_of}

@@ -6,7 +6,7 @@ use Rattle.std.specs.BTreeMap.{get}
 use Rattle.vk_model.specs.Basics.{holds}
 use Rattle.vk_model.specs.Trace.Point.{Past, Point, on_host}
 use Rattle.vk_model.specs.Trace.Objects.{made_by}
-use Rattle.vk_order.specs.PointViews.{point_of}
+use Rattle.vk_model.specs.Trace.PointViews.{point_of}
 use Rattle.vk_past.specs.declared.creators.Creators.{Creators}
 
 -- Whether a point makes an id.

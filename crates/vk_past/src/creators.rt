@@ -3,14 +3,13 @@ ghost use Rattle.std.specs.Ordering.{nat_cmp};
 ghost use Rattle.std.specs.BTreeMap.{get};
 ghost use Rattle.vk_model.specs.Trace.Point.{Past};
 ghost use Rattle.vk_model.specs.Trace.Objects.{made, buffer, image, memory, pool, type_at, type_of, is_cached};
-ghost use Rattle.vk_order.specs.PointViews.{point_of};
+ghost use Rattle.vk_model.specs.Trace.PointViews.{point_of};
 ghost use Rattle.vk_past.specs.Creators.{AreCreators, creator};
 
 use crate::doings::entry_of;
 use std::alloc::{AllocError, Global};
 use std::collections::BTreeMap;
-use vk_model::{BufferInfo, Entry, ImageInfo, Place};
-use vk_order::{Action, Point};
+use vk_model::{Action, BufferInfo, Entry, ImageInfo, Place, Point};
 
 /// The point that made each id, the last one where there are several.
 #[derive(Drop)]

@@ -4,12 +4,11 @@ ghost use Rattle.vk_model.specs.Basics.{among};
 ghost use Rattle.vk_model.specs.Trace.Objects as objects;
 ghost use Rattle.vk_model.specs.Trace.Order as spec;
 ghost use Rattle.vk_model.specs.Trace.Point as spec_point;
-ghost use Rattle.vk_order.specs.PointViews.{action_of, point_of};
+ghost use Rattle.vk_model.specs.Trace.PointViews.{action_of, point_of};
 ghost use Rattle.vk_queues.specs.PointViews.{past_of};
 ghost use Rattle.vk_past.specs.Doings.{does};
 
-use vk_model::{Entry, SemaphoreValue};
-use vk_order::{Action, Point};
+use vk_model::{Action, Entry, Point, SemaphoreValue};
 
 /// What a point may do with an object.
 #[derive(Clone, Copy, Debug, PartialEq, Eq)]

@@ -1,12 +1,14 @@
 ghost use Rattle.std.specs.Prelude.{◌≡◌, [], ℕ, IfOk, Some, slice_get, take};
 ghost use Rattle.vk_model.specs.Sync.Node.{nodes};
-ghost use Rattle.vk_order.specs.declared.point.Point.{Point as AnyPoint};
-ghost use Rattle.vk_order.specs.PointViews.{point_of, nodes_after};
+ghost use Rattle.vk_model.specs.declared.point.Point.{Point as AnyPoint};
+ghost use Rattle.vk_model.specs.Trace.PointViews.{point_of};
+ghost use Rattle.vk_order.specs.NodeViews.{nodes_after};
 ghost use Rattle.vk_order.specs.Queries.{IsNew};
 ghost use Rattle.vk_queues.specs.PointViews.{past_of};
 
 use std::alloc::{AllocError, Global};
-use vk_order::{Point, Points, Row, rows_of};
+use vk_model::Point;
+use vk_order::{Points, Row, rows_of};
 
 /// The rows of all nodes of points. The only error is want of memory.
 pub fn all_rows<'a>(alloc: Global, points: &[Point<'a>]) -> Result<Vec<Row<'a>>, AllocError>

@@ -4,8 +4,7 @@ ghost use Rattle.vk_model.specs.World.ByteWrites.{buffer_size};
 ghost use Rattle.vk_queues.specs.PointViews.{past_of};
 
 use crate::doings::made;
-use vk_model::{BufferInfo, Entry, ImageInfo, MemoryInfo, Place, PoolInfo, Usage};
-use vk_order::Point;
+use vk_model::{BufferInfo, Entry, ImageInfo, MemoryInfo, Place, Point, PoolInfo, Usage};
 
 /// The memory type that the host reaches through a cache.
 const CACHED: u32 = 2;

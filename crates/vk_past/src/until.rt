@@ -2,16 +2,15 @@ ghost use Rattle.std.specs.Prelude.{◌≡◌, ◌<◌, ℕ, IfOk, IfSome, IfNon
 ghost use Rattle.vk_model.specs.Trace.Point as spec;
 ghost use Rattle.vk_model.specs.Trace.Order.{order};
 ghost use Rattle.vk_model.specs.Sync.Node.{nodes};
-ghost use Rattle.vk_order.specs.declared.point.Point.{Point as AnyPoint};
-ghost use Rattle.vk_order.specs.PointViews.{point_of};
+ghost use Rattle.vk_model.specs.declared.point.Point.{Point as AnyPoint};
+ghost use Rattle.vk_model.specs.Trace.PointViews.{point_of};
 ghost use Rattle.vk_order.specs.Places.{IsApart};
 ghost use Rattle.vk_order.specs.Queries.{IsNew};
 ghost use Rattle.vk_queues.specs.PointViews.{past_of};
 ghost use Rattle.vk_past.specs.Until.{IsUntil, IsNowhere};
 
 use std::alloc::{AllocError, Global};
-use vk_model::{At, Entry};
-use vk_order::{Action, Point};
+use vk_model::{Action, At, Entry, Point};
 use vk_queues::reference_order;
 
 /// The points of a trace in reference order, up to and with the one at this place; none where

@@ -5,8 +5,8 @@ use Rattle.std.proofs.lemmas.List.Sums.{fold-append}
 use Rattle.vk_model.specs.declared.entry.Entry.{Entry}
 use Rattle.vk_model.specs.Trace.Point.{Past, Action}
 use Rattle.vk_model.specs.Trace.Order.{SubmittedBatch, Front, actions, next_batch, start_batch, settled, after_entry, order_from}
-use Rattle.vk_order.specs.declared.point.Point.{Point}
-use Rattle.vk_order.specs.PointViews.{point_of}
+use Rattle.vk_model.specs.declared.point.Point.{Point}
+use Rattle.vk_model.specs.Trace.PointViews.{point_of}
 use Rattle.vk_queues.specs.PointViews.{past_after, add}
 use Rattle.vk_queues.specs.Inner.Lined.{IsRising}
 use Rattle.vk_queues.proofs.NextBatch.{next_waits, length_without, without}

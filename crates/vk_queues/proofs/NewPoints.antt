@@ -12,8 +12,8 @@ use Rattle.vk_model.specs.Rules.Fault.{Comes, newest, older}
 use Rattle.vk_model.proofs.Trace.Once.{come_once}
 use Rattle.vk_model.proofs.Trace.Structure.{order_ordered}
 use Rattle.vk_model.proofs.Trace.Older.{comes_has}
-use Rattle.vk_order.specs.declared.point.Point.{Point as Given}
-use Rattle.vk_order.specs.PointViews.{point_of}
+use Rattle.vk_model.specs.declared.point.Point.{Point as Given}
+use Rattle.vk_model.specs.Trace.PointViews.{point_of}
 use Rattle.vk_order.specs.Queries.{IsNew}
 use Rattle.vk_order.specs.Places.{IsElsewhere, IsApart}
 use Rattle.vk_order.proofs.ElementPlaces.{elsewhere}

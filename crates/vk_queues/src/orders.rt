@@ -2,8 +2,8 @@ ghost use Rattle.std.specs.Prelude.{◌≡◌, ◌+◌, ℕ, IfOk, OnOk, Some, s
 ghost use Rattle.vk_model.specs.Trace.Point.{Past};
 ghost use Rattle.vk_model.specs.Trace.Order.{Front, after_entry, order};
 ghost use Rattle.vk_model.specs.Sync.Node.{nodes};
-ghost use Rattle.vk_order.specs.declared.point.Point.{Point as AnyPoint};
-ghost use Rattle.vk_order.specs.PointViews.{point_of};
+ghost use Rattle.vk_model.specs.declared.point.Point.{Point as AnyPoint};
+ghost use Rattle.vk_model.specs.Trace.PointViews.{point_of};
 ghost use Rattle.vk_order.specs.Queries.{IsNew};
 ghost use Rattle.vk_queues.specs.PointViews.{past_after, past_of};
 ghost use Rattle.vk_queues.specs.IsWaiting.{IsWaiting};
@@ -11,8 +11,7 @@ ghost use Rattle.vk_queues.specs.IsWaiting.{IsWaiting};
 use crate::pushing::push_batch;
 use crate::waiting::Waiting;
 use std::alloc::{AllocError, Global};
-use vk_model::Entry;
-use vk_order::{Action, Point};
+use vk_model::{Action, Entry, Point};
 
 /// The points of a trace in reference order, the oldest first. A batch that is never started has
 /// none. Each point is new after the ones before it, so that it can be added to `vk_order::Points`.

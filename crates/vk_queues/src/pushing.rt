@@ -5,8 +5,7 @@ ghost use Rattle.vk_queues.specs.PointViews.{batch_of, past_after};
 
 use crate::submitted::Submitted;
 use std::alloc::AllocError;
-use vk_model::{Cmd, SemaphoreSubmit};
-use vk_order::{Action, Point};
+use vk_model::{Action, Cmd, Point, SemaphoreSubmit};
 
 /// Adds the points of a batch: its waits, its commands, its signals.
 pub fn push_batch<'a>(points: &mut Vec<Point<'a>>, batch: &Submitted<'a>) -> Result<(), AllocError>

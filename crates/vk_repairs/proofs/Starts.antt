@@ -16,13 +16,13 @@ use Rattle.vk_model.specs.declared.entry.Entry.{Entry}
 use Rattle.vk_model.proofs.Trace.Structure.{order_ordered}
 use Rattle.vk_model.specs.Rules.Fault.{Comes, newest, older}
 use Rattle.vk_model.proofs.Trace.Once.{come_once}
-use Rattle.vk_order.specs.declared.point.Point.{Point as Given}
-use Rattle.vk_order.specs.PointViews.{point_of, action_of}
+use Rattle.vk_model.specs.declared.point.Point.{Point as Given}
+use Rattle.vk_model.specs.Trace.PointViews.{point_of, action_of}
 use Rattle.vk_queues.specs.PointViews.{past_of, add}
 use Rattle.vk_model.proofs.Trace.Older.{comes_has}
 use Rattle.vk_queues.proofs.NewPoints.{comes_at}
-use Rattle.vk_history.specs.Supported.{is_supported, is_supported_action}
-use Rattle.vk_history.proofs.Points.Pasts.{supported-next}
+use Rattle.vk_model.specs.Trace.Supported.{is_supported, is_supported_action}
+use Rattle.vk_model.proofs.Trace.Supporting.{supported-next}
 use Rattle.vk_repairs.specs.Starts.{sound_start, IsAmong}
 
 -- ---- the point of the first fault

@@ -4,16 +4,14 @@ ghost use Rattle.vk_model.specs.Trace.Point as spec;
 ghost use Rattle.vk_model.specs.Trace.Order.{order};
 ghost use Rattle.vk_model.specs.Trace.Structure.{IsOrdered};
 ghost use Rattle.vk_model.specs.Rules.Table.{fault, first_fault};
-ghost use Rattle.vk_order.specs.PointViews.{point_of};
+ghost use Rattle.vk_model.specs.Trace.PointViews.{point_of};
 ghost use Rattle.vk_queues.specs.PointViews.{past_of};
-ghost use Rattle.vk_history.specs.Supported as supported;
+ghost use Rattle.vk_model.specs.Trace.Supported as supported;
 ghost use Rattle.vk_validate.specs.Verdicts.{reported};
 ghost use Rattle.vk_repairs.specs.Starts.{sound_start, IsAmong};
 
 use std::alloc::{AllocError, Global};
-use vk_history::is_supported;
-use vk_model::{At, Entry, Rule};
-use vk_order::{Action, Point};
+use vk_model::{Action, At, Entry, Point, Rule, is_supported};
 use vk_queues::reference_order;
 use vk_validate::{Verdict, validate};
 

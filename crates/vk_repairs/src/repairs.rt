@@ -17,8 +17,7 @@ use crate::seeking::{edits_of, followed, followed_twice, sought};
 use std::alloc::{AllocError, Global};
 use vk_candidates::{Candidates, Kind, PLAIN, STAND_IN, WEAKER};
 use vk_edits::{Edit, STEPS, edited, may_go, moved, with_less, without_edit};
-use vk_model::{At, Entry, Rule};
-use vk_order::Point;
+use vk_model::{At, Entry, Point, Rule};
 use vk_queues::reference_order;
 
 /// At most so many lists of edits of a kind are judged, and as many each that are two and three

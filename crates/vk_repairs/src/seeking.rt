@@ -2,8 +2,7 @@ use crate::judging::judge;
 use std::alloc::{AllocError, Global};
 use vk_candidates::{Candidates, Case, Kind, PLAIN, WEAKER, candidates};
 use vk_edits::{Edit, copy_of_edits, edited, has_removal, moved};
-use vk_model::{At, Entry, Rule};
-use vk_order::Point;
+use vk_model::{At, Entry, Point, Rule};
 use vk_queues::reference_order;
 
 /// So many lists of edits are gone on from.

@@ -1,7 +1,7 @@
 ghost use Rattle.std.specs.Prelude.{◌≡◌};
 ghost use Rattle.vk_replay.specs.ExitStatus.{exit_status_of};
 
-use vk_trace::Status;
+use vk_run::Status;
 
 /// The program's exit status after a run that gave an answer.
 pub fn exit_status(status: Status) -> u8

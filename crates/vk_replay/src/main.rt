@@ -11,7 +11,8 @@ use std::process::ExitCode;
 use std::rt::Env;
 use vk_console::{arguments, complain, refuse};
 use vk_model::{Config, First, Last, Scheduler, Seeded};
-use vk_trace::{Watched, run};
+use vk_run::run;
+use vk_trace::Watched;
 
 /// Does what the command line asks, and answers the exit status.
 fn perform<R: Env + Input + Print + Eprint + AllocGlobal>(rt: &R) -> u8 {

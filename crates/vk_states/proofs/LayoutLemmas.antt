@@ -14,8 +14,8 @@ use Rattle.vk_model.specs.World.ByteWrites.{byte_writes}
 use Rattle.vk_model.specs.World.Effect.{world, used, after_writes, after_element, after_buffer_element, after_image_element, after_action}
 use Rattle.vk_model.specs.World.Ownership.{Transfer, Stays, Release, Acquire, Neither, transfer, acquires, is_transition, family_of, uses, elements_of}
 use Rattle.vk_laws.proofs.Forms.Unchanged.{used_layout, ready_layout, host_layout}
-use Rattle.vk_order.specs.declared.point.Point.{Point as ProgramPoint}
-use Rattle.vk_order.specs.PointViews.{point_of}
+use Rattle.vk_model.specs.declared.point.Point.{Point as ProgramPoint}
+use Rattle.vk_model.specs.Trace.PointViews.{point_of}
 use Rattle.vk_queues.specs.PointViews.{past_of}
 use Rattle.vk_past.proofs.PastLemmas.{past_item, past_push}
 use Rattle.vk_states.specs.Layouts.{takes_place, names_at, changes_at, transitions}

@@ -8,8 +8,8 @@ use Rattle.vk_model.specs.Basics.{holds}
 use Rattle.vk_model.specs.Trace.Point.{Past, Point, host_of, entries, on_host}
 use Rattle.vk_model.specs.Trace.Objects.{memory_of}
 use Rattle.vk_model.specs.Rules.Mapping.{is_mapped, maps, count_for}
-use Rattle.vk_order.specs.declared.point.Point.{Point as ProgramPoint}
-use Rattle.vk_order.specs.PointViews.{point_of}
+use Rattle.vk_model.specs.declared.point.Point.{Point as ProgramPoint}
+use Rattle.vk_model.specs.Trace.PointViews.{point_of}
 use Rattle.vk_queues.specs.PointViews.{past_of}
 use Rattle.vk_past.proofs.PastLemmas.{past_item}
 use Rattle.vk_states.specs.declared.mappings.MapState.{MapState}

@@ -5,7 +5,7 @@ use Rattle.vk_model.specs.declared.command.Cmd.TheVariants as cmd
 use Rattle.vk_model.specs.declared.command.Dependency.{Dependency}
 use Rattle.vk_model.specs.Trace.Point.{Past, Point, Action, Run, command_of, on_command}
 use Rattle.vk_model.specs.Rules.Synchronization.{set_by, same_dependency}
-use Rattle.vk_order.specs.PointViews.{action_of, point_of}
+use Rattle.vk_model.specs.Trace.PointViews.{action_of, point_of}
 use Rattle.vk_states.specs.declared.events.EventState.{EventState}
 use Rattle.vk_states.specs.declared.events.EventDependency.{EventDependency}
 

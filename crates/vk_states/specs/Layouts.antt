@@ -10,7 +10,7 @@ use Rattle.vk_model.specs.Trace.Point.{Past, Point, Action, Run, on_command}
 use Rattle.vk_model.specs.World.Effect.{world}
 use Rattle.vk_model.specs.World.Ownership.{elements_of, is_acquire, is_transition}
 use Rattle.vk_model.specs.Rules.Layouts.{Named, layouts_named, is_allowed, bad_transition, bad_old_layout}
-use Rattle.vk_order.specs.PointViews.{point_of}
+use Rattle.vk_model.specs.Trace.PointViews.{point_of}
 use Rattle.vk_states.specs.declared.layouts.BadTransition.{BadTransition}
 use Rattle.vk_states.specs.declared.layouts.LayoutState.{LayoutState}
 use Rattle.vk_states.specs.declared.layouts.LayoutState.TheVariants as state

@@ -7,7 +7,7 @@ use Rattle.vk_model.specs.Basics.{holds}
 use Rattle.vk_model.specs.Trace.Point.{Past, Action, Host, on_host}
 use Rattle.vk_model.specs.Trace.Objects.{memory_of}
 use Rattle.vk_model.specs.Rules.Mapping.{mapping, maps, unmaps, count_for}
-use Rattle.vk_order.specs.PointViews.{point_of}
+use Rattle.vk_model.specs.Trace.PointViews.{point_of}
 use Rattle.vk_states.specs.declared.mappings.MapState.{MapState}
 
 -- Whether an entry maps or unmaps what is mapped with a resource (Vulkan, "Host Access to Device Memory Objects"; VMA, "Memory mapping").

@@ -4,7 +4,7 @@ use Rattle.std.specs.List.{find}
 use Rattle.vk_model.specs.Basics.{holds}
 use Rattle.vk_model.specs.Trace.Point.{Past, Point, Action}
 use Rattle.vk_model.specs.Trace.Order.{signal_of}
-use Rattle.vk_order.specs.PointViews.{action_of, point_of}
+use Rattle.vk_model.specs.Trace.PointViews.{action_of, point_of}
 use Rattle.vk_states.specs.declared.signals.SignalOrder.{SignalOrder}
 
 -- Whether a point signals a semaphore (Vulkan, "Semaphore Signaling").

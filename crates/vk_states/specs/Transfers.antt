@@ -10,7 +10,7 @@ use Rattle.vk_model.specs.World.Bytes.{Owner}
 use Rattle.vk_model.specs.World.Effect.{world}
 use Rattle.vk_model.specs.World.Ownership.{Release, Acquire, Neither, transfer_on, named_by, families_of}
 use Rattle.vk_model.specs.Rules.Owners.{is_released, is_released_for}
-use Rattle.vk_order.specs.PointViews.{point_of}
+use Rattle.vk_model.specs.Trace.PointViews.{point_of}
 use Rattle.vk_states.specs.declared.owners.Ownership.{Ownership}
 use Rattle.vk_states.specs.declared.transfers.OwnerFault.{OwnerFault}
 use Rattle.vk_states.specs.declared.transfers.OwnerFault.TheVariants as fault

@@ -2,14 +2,13 @@ ghost use Rattle.std.specs.Prelude.{◌≡◌, ◌==◌, ◌&&◌, ◌+◌, ◌-
 ghost use Rattle.vk_model.specs.declared.entry.Entry.{Entry as AnyEntry};
 ghost use Rattle.vk_model.specs.Memory.Suballocation as ranges;
 ghost use Rattle.vk_model.specs.Trace.Objects as objects;
-ghost use Rattle.vk_order.specs.PointViews.{action_of};
+ghost use Rattle.vk_model.specs.Trace.PointViews.{action_of};
 ghost use Rattle.vk_queues.specs.PointViews.{past_of};
 ghost use Rattle.vk_states.specs.Binding.{IsAliased, IsAliasedBy};
 ghost use Rattle.vk_states.specs.Inner.Binding.{IsBound};
 
 use vk_image_tiles::Shape;
-use vk_model::{BufferInfo, Entry, ImageInfo, Kind, Place};
-use vk_order::{Action, Point};
+use vk_model::{Action, BufferInfo, Entry, ImageInfo, Kind, Place, Point};
 use vk_past::live;
 
 /// The bytes of a page of `bufferImageGranularity`.

@@ -4,14 +4,13 @@ ghost use Rattle.std.specs.BTreeMap.{get};
 ghost use Rattle.vk_model.specs.Trace.Objects.{memory_of};
 ghost use Rattle.vk_model.specs.Trace.Point.{Past};
 ghost use Rattle.vk_model.specs.Rules.Mapping.{mapping};
-ghost use Rattle.vk_order.specs.PointViews.{point_of};
+ghost use Rattle.vk_model.specs.Trace.PointViews.{point_of};
 ghost use Rattle.vk_queues.specs.PointViews.{past_of};
 ghost use Rattle.vk_states.specs.Inner.Bindings.{AreBindings, memory_in, memory_at};
 
 use std::alloc::{AllocError, Global};
 use std::collections::BTreeMap;
-use vk_model::{Entry, Place};
-use vk_order::{Action, Point};
+use vk_model::{Action, Entry, Place, Point};
 
 /// The memory object that each resource was bound to, if it was to one, by the last entry that made
 /// its id.

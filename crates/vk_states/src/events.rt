@@ -4,12 +4,11 @@ ghost use Rattle.vk_model.specs.declared.command.Dependency.{Dependency as AnyDe
 ghost use Rattle.vk_model.specs.Basics.{holds};
 ghost use Rattle.vk_model.specs.Trace.Point.{Run, command_of};
 ghost use Rattle.vk_model.specs.Rules.Synchronization as rules;
-ghost use Rattle.vk_order.specs.PointViews.{action_of, point_of};
+ghost use Rattle.vk_model.specs.Trace.PointViews.{action_of, point_of};
 ghost use Rattle.vk_queues.specs.PointViews.{past_of};
 ghost use Rattle.vk_states.specs.Events.{IsEventState, IsEventDependency, IsDifference, AreAwaited, same_one, sets_event, sets_event_on};
 
-use vk_model::{Cmd, Dependency};
-use vk_order::{Action, Point};
+use vk_model::{Action, Cmd, Dependency, Point};
 
 /// EVENT_STATE: whether an event was set.
 #[derive(Clone, Copy)]

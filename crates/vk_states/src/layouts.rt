@@ -7,7 +7,7 @@ ghost use Rattle.vk_model.specs.World.Bytes.{World};
 ghost use Rattle.vk_model.specs.World.Effect.{world};
 ghost use Rattle.vk_model.specs.World.Ownership.{elements_of};
 ghost use Rattle.vk_model.specs.Rules.Layouts as rules;
-ghost use Rattle.vk_order.specs.PointViews.{action_of, point_of};
+ghost use Rattle.vk_model.specs.Trace.PointViews.{action_of, point_of};
 ghost use Rattle.vk_queues.specs.PointViews.{past_of};
 ghost use Rattle.vk_states.specs.Layouts.{IsLayout, IsLayoutBy, IsBadTransition, IsOldLayout, IsOldLayoutBy, named_of, transition_in};
 ghost use Rattle.vk_states.specs.Inner.LayoutSteps.{ShowLayouts};
@@ -17,8 +17,8 @@ use crate::naming::{NamedPart, parts_named};
 use crate::subresources::{CurrentLayout, current_at, first_other};
 use crate::transitions::{Subresource, is_transition, with_transitions};
 use std::alloc::{AllocError, Global};
-use vk_model::{Cmd, Element, ImageElement, Layout, SubresourceRange};
-use vk_order::{Action, Point, is_acquire};
+use vk_model::{Action, Cmd, Element, ImageElement, Layout, Point, SubresourceRange};
+use vk_order::is_acquire;
 
 /// The number of the layout GENERAL.
 const GENERAL: u32 = 1;

@@ -3,7 +3,7 @@ ghost use Rattle.std.specs.List.{find, list_any};
 ghost use Rattle.vk_model.specs.Trace.Objects.{memory_of};
 ghost use Rattle.vk_model.specs.Trace.Point.{Past, host_of, on_host};
 ghost use Rattle.vk_model.specs.Rules.Mapping as rules;
-ghost use Rattle.vk_order.specs.PointViews.{action_of, point_of};
+ghost use Rattle.vk_model.specs.Trace.PointViews.{action_of, point_of};
 ghost use Rattle.vk_queues.specs.PointViews.{past_of};
 ghost use Rattle.vk_states.specs.Mapping.{IsMapState, IsMapped, IsWrong};
 ghost use Rattle.vk_states.specs.Inner.Bindings.{AreBindings};
@@ -11,8 +11,7 @@ ghost use Rattle.vk_states.specs.Inner.Mapping.{form_of, counted, is_form, moves
 
 use crate::bindings::Bindings;
 use std::alloc::{AllocError, Global};
-use vk_model::Entry;
-use vk_order::{Action, Point};
+use vk_model::{Action, Entry, Point};
 
 /// MAP_STATE: how often what is mapped with a resource was mapped and unmapped.
 #[derive(Clone, Copy)]

@@ -6,15 +6,14 @@ ghost use Rattle.vk_model.specs.Trace.Point.{Past};
 ghost use Rattle.vk_model.specs.World.Bytes.{Owner};
 ghost use Rattle.vk_model.specs.World.Ownership as ownership;
 ghost use Rattle.vk_layouts.specs.Owned.{transfer_of};
-ghost use Rattle.vk_order.specs.PointViews.{point_of};
+ghost use Rattle.vk_model.specs.Trace.PointViews.{point_of};
 ghost use Rattle.vk_queues.specs.PointViews.{past_of};
 ghost use Rattle.vk_states.specs.Owners.{holder_of, owned_since, takes, takes_by, is_transition_of};
 ghost use Rattle.vk_states.specs.Inner.OwnerSteps.{owner_by, owner_by_point, owner_in};
 
 use crate::transitions::is_transition;
 use vk_layouts::Transfer;
-use vk_model::{Cmd, Element, Entry, Sharing};
-use vk_order::{Action, Point};
+use vk_model::{Action, Cmd, Element, Entry, Point, Sharing};
 
 /// Who owns a resource.
 #[derive(Clone, Copy)]

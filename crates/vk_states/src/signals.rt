@@ -1,9 +1,9 @@
 ghost use Rattle.std.specs.Prelude.{IfSome};
-ghost use Rattle.vk_order.specs.PointViews.{action_of};
+ghost use Rattle.vk_model.specs.Trace.PointViews.{action_of};
 ghost use Rattle.vk_queues.specs.PointViews.{past_of};
 ghost use Rattle.vk_states.specs.Signals.{IsSignalOrder};
 
-use vk_order::Point;
+use vk_model::Point;
 use vk_past::{Doing, latest, signal_of};
 
 /// SIGNAL_ORDER: a signal, and the last one of the same semaphore before it.

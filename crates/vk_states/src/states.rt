@@ -1,7 +1,7 @@
 ghost use Rattle.std.specs.Prelude.{◌≡◌, ◌∷◌, IfOk};
 ghost use Rattle.vk_model.specs.Trace.Point as spec;
 ghost use Rattle.vk_model.specs.declared.rule.Rule.TheVariants as rule;
-ghost use Rattle.vk_order.specs.PointViews.{point_of};
+ghost use Rattle.vk_model.specs.Trace.PointViews.{point_of};
 ghost use Rattle.vk_queues.specs.PointViews.{past_of};
 ghost use Rattle.vk_states.specs.States.{IsFound};
 
@@ -12,8 +12,7 @@ use crate::mappings::{MapState, map_state_of};
 use crate::signals::{SignalOrder, signal_order_of};
 use crate::transfers::{OwnerState, owner_pair_of};
 use std::alloc::{AllocError, Global};
-use vk_model::Rule;
-use vk_order::Point;
+use vk_model::{Point, Rule};
 use vk_past::split_of;
 
 /// What a point finds that its rule doesn't allow.

@@ -5,8 +5,7 @@ ghost use Rattle.vk_states.specs.Layouts.{IsCurrent, IsOtherIn};
 ghost use Rattle.vk_states.specs.Inner.LayoutSteps.{layout_in, ShowLayouts, IsOtherAt};
 
 use crate::transitions::{Subresource, layout_set_by};
-use vk_model::SubresourceRange;
-use vk_order::Point;
+use vk_model::{Point, SubresourceRange};
 
 /// The number of the layout UNDEFINED.
 const UNDEFINED: u32 = 0;

@@ -1,6 +1,6 @@
 ghost use Rattle.std.specs.Prelude.{◌≡◌, ◌<◌, IfSome, IsTrue, true, length};
 ghost use Rattle.vk_model.specs.World.Ownership as ownership;
-ghost use Rattle.vk_order.specs.PointViews.{action_of};
+ghost use Rattle.vk_model.specs.Trace.PointViews.{action_of};
 ghost use Rattle.vk_queues.specs.PointViews.{past_of};
 ghost use Rattle.vk_states.specs.Owners.{holder_of};
 ghost use Rattle.vk_states.specs.Transfers.{IsOwnerPair, IsFault, AreTransfers};
@@ -9,8 +9,7 @@ ghost use Rattle.vk_states.specs.Inner.Transfers.{IsMisfit, IsMisfitAt};
 
 use crate::owners::{Holder, Ownership, half_of, named_by, ownership_of, takes_some};
 use vk_layouts::{Transfer, is_pair};
-use vk_model::{Cmd, Element, Families};
-use vk_order::{Action, Point};
+use vk_model::{Action, Cmd, Element, Families, Point};
 
 /// Why a release or an acquire doesn't fit the owner of its resource.
 #[derive(Clone, Copy, Debug, PartialEq, Eq)]

@@ -2,14 +2,14 @@ ghost use Rattle.std.specs.Prelude.{◌≡◌, ◌==◌, ◌&&◌, ℕ, IfOk, is
 ghost use Rattle.std.specs.List.{list_any, fold};
 ghost use Rattle.vk_model.specs.World.Ownership as ownership;
 ghost use Rattle.vk_model.specs.Basics.{within};
-ghost use Rattle.vk_order.specs.PointViews.{action_of, point_of};
+ghost use Rattle.vk_model.specs.Trace.PointViews.{action_of, point_of};
 ghost use Rattle.vk_queues.specs.PointViews.{past_of};
 ghost use Rattle.vk_states.specs.Layouts.{changes_at, takes_place, transitions};
 ghost use Rattle.vk_states.specs.Inner.LayoutSteps.{layout_by, layout_by_point, takes_some, ShowLayouts};
 
 use std::alloc::{AllocError, Global};
-use vk_model::{Cmd, Element, ImageElement, SubresourceRange};
-use vk_order::{Action, Point, is_acquire};
+use vk_model::{Action, Cmd, Element, ImageElement, Point, SubresourceRange};
+use vk_order::is_acquire;
 
 /// A subresource of an image.
 #[derive(Clone, Copy)]

@@ -5,8 +5,8 @@ use Rattle.std.proofs.lemmas.Bool.{and_parts}
 use Rattle.vk_model.specs.declared.entry.Entry.{Entry}
 use Rattle.vk_model.specs.Trace.Point.{Past, Action, Wait, Run, Signal}
 use Rattle.vk_model.specs.Trace.Order.{SubmittedBatch, Front, host, actions, started, batches_of, next_batch, start_batch, settled, after_entry, order_from, order}
-use Rattle.vk_history.specs.Supported.{is_supported, is_supported_action, is_supported_entry}
-use Rattle.vk_history.proofs.Points.Pasts.{supported-next}
+use Rattle.vk_model.specs.Trace.Supported.{is_supported, is_supported_action, is_supported_entry}
+use Rattle.vk_model.proofs.Trace.Supporting.{supported-next}
 use Rattle.vk_trace.specs.Trace.{IsTrace}
 
 actions_supported : {A : Type 0} (of : A → Action) → ((x : A) → is_supported_action (of x) ≡ true) → (t : SubmittedBatch) (k : ℕ) (xs : List A) (past : Past) → is_supported past ≡ true → is_supported (actions of t k xs past) ≡ true

@@ -2,6 +2,6 @@ pub mod Members
 pub mod Trace
 pub mod Inner
 pub mod Text
-pub mod Run
+pub mod Streams
 pub mod Watching
 pub mod TextExamples

@@ -32,7 +32,7 @@ use Rattle.vk_model.specs.declared.entry.SemaphoreSubmit.{SemaphoreSubmit}
 use Rattle.vk_model.specs.declared.entry.Batch.{Batch}
 use Rattle.vk_model.specs.declared.entry.Entry.{Entry}
 use Rattle.vk_model.specs.declared.entry.Entry.TheVariants.{Buffer, Image, Memory as MemoryObject, Free, Destroy, Pool, DropPool, Map, Unmap, Write, Read, Flush, Invalidate, Semaphore, Event, Signal, Wait, Submit, Defrag, Pass, EndPass, EndDefrag}
-use Rattle.vk_history.specs.Supported.{is_supported_entry}
+use Rattle.vk_model.specs.Trace.Supported.{is_supported_entry}
 use Rattle.vk_trace.specs.Members.{Reader, Row, ◌>>=◌, from, ◌<*>◌, members, at_word, one_word, tagged, list_of, bytes_value, u64_value, u32_value}
 
 -- A number of bytes, or the word that means all to the end (`VK_WHOLE_SIZE`) (profile).

@@ -1,4 +1,5 @@
-//! From the bytes of a trace to the bytes of its answer.
+//! A trace as text: from its bytes to its entries, and from an outcome to the text of an answer; and the
+//! streams that both go through.
 #![tactic(auto)]
 
 mod commands;
@@ -10,7 +11,7 @@ mod members;
 mod pools;
 mod printing;
 mod reading;
-mod running;
+mod streams;
 pub mod text_examples;
 mod tokens;
 mod watched;
@@ -18,5 +19,5 @@ mod watched;
 pub use errors::{ReadTraceError, RunError};
 pub use printing::{Outcome, text};
 pub use reading::read_trace;
-pub use running::{Answer, Status, answer_of, read_all, run, write_all};
+pub use streams::{read_all, write_all};
 pub use watched::Watched;

@@ -2,7 +2,7 @@ ghost use Rattle.std.specs.Prelude.{◌≡◌, List, option_and_then, IfOk};
 ghost use Rattle.std.specs.List.{list_all};
 ghost use Rattle.serde_json.specs.Read.{read};
 ghost use Rattle.vk_model.specs.declared.entry.Entry.{Entry};
-ghost use Rattle.vk_history.specs.Supported.{is_supported_entry};
+ghost use Rattle.vk_model.specs.Trace.Supported.{is_supported_entry};
 ghost use Rattle.vk_trace.specs.Inner.Gives.{Gives};
 ghost use Rattle.vk_trace.specs.Trace.{IsTrace};
 
@@ -11,9 +11,7 @@ use crate::members::Member;
 use crate::tokens::{Reading, Tokens};
 use json::{Reader, Scratch};
 use std::alloc::Global;
-use vk_history::is_supported;
-use vk_model::{Entry, Sequence};
-use vk_order::{Action, Point};
+use vk_model::{Action, Entry, Point, Sequence, is_supported};
 
 /// The entries that the bytes of a trace mean. `NotTrace` comes only where they mean none.
 ///

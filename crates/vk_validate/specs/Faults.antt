@@ -5,7 +5,7 @@ use Rattle.vk_model.specs.declared.rule.Rule.{Rule}
 use Rattle.vk_model.specs.declared.rule.Rule.TheVariants as rule
 use Rattle.vk_model.specs.Trace.Point.{Past, Point, at_of}
 use Rattle.vk_model.specs.Rules.Table.{first_rule}
-use Rattle.vk_history.specs.Supported.{is_supported_action}
+use Rattle.vk_model.specs.Trace.Supported.{is_supported_action}
 
 -- The rule that is reported of a point: the first that it breaks, or LIVE_ID where its form isn't supported (profile).
 abbrev pub reported_rule : Past → Point → Option Rule

@@ -10,7 +10,7 @@ ghost use Rattle.vk_model.specs.World.Ownership as ownership;
 ghost use Rattle.vk_model.specs.World.Ownership.{named_by, families_of, transfer_on};
 ghost use Rattle.vk_model.specs.Rules.Owners as owners;
 ghost use Rattle.vk_model.specs.Sync.Node.{Node};
-ghost use Rattle.vk_order.specs.PointViews.{point_of};
+ghost use Rattle.vk_model.specs.Trace.PointViews.{point_of};
 ghost use Rattle.vk_history.specs.Owners.{is_transition_of};
 ghost use Rattle.vk_history.specs.PointViews.{past};
 ghost use Rattle.vk_validate.specs.Inner.Owners.{Judges, ComesAfter, is_released_now};
@@ -19,8 +19,7 @@ use std::alloc::{AllocError, Global};
 use std::collections::BTreeMap;
 use vk_history::{History, Owned, family_of, is_transition};
 use vk_layouts::{Transfer, is_pair};
-use vk_model::{Element, Families};
-use vk_order::Point;
+use vk_model::{Element, Families, Point};
 
 /// Of which resources the elements of a barrier have changed the owner, and whether each is released
 /// now.

@@ -4,7 +4,7 @@ ghost use Rattle.vk_model.specs.Trace.Structure.{IsOrdered};
 ghost use Rattle.vk_model.specs.Trace.Point.{Past, Host, Run, Point as AnyPoint};
 ghost use Rattle.vk_model.specs.Rules.Table as table;
 ghost use Rattle.vk_model.specs.Rules.Hazards.{breaks_in_use};
-ghost use Rattle.vk_order.specs.PointViews.{action_of, point_of};
+ghost use Rattle.vk_model.specs.Trace.PointViews.{action_of, point_of};
 ghost use Rattle.vk_history.specs.PointViews.{past};
 ghost use Rattle.vk_history.specs.Judged.{early_rules, late_rules, first_among};
 ghost use Rattle.vk_validate.specs.Inner.Early.{breaks_early, AreSearched};
@@ -25,8 +25,7 @@ mod traces;
 
 use std::alloc::AllocError;
 use vk_history::History;
-use vk_model::{Cmd, Entry, Rule};
-use vk_order::{Action, Point};
+use vk_model::{Action, Cmd, Entry, Point, Rule};
 use vk_touches::Conflicts;
 
 /// Whether a point breaks the rules that need memory to be judged.

@@ -3,18 +3,17 @@ ghost use Rattle.vk_model.specs.Trace.Point as spec;
 ghost use Rattle.vk_model.specs.Trace.Order.{order};
 ghost use Rattle.vk_model.specs.Trace.Structure.{IsOrdered};
 ghost use Rattle.vk_model.specs.Rules.Table.{first_fault};
-ghost use Rattle.vk_history.specs.Supported.{is_supported};
+ghost use Rattle.vk_model.specs.Trace.Supported.{is_supported};
 ghost use Rattle.vk_validate.specs.Faults.{reported_fault};
 ghost use Rattle.vk_validate.specs.Verdicts.{reported, IsAbout};
-ghost use Rattle.vk_order.specs.PointViews.{point_of};
+ghost use Rattle.vk_model.specs.Trace.PointViews.{point_of};
 ghost use Rattle.vk_queues.specs.PointViews.{past_of};
 
 use crate::rules::first_rule;
 use std::alloc::{AllocError, Global};
 use std::marker::Model;
-use vk_history::{History, is_supported};
-use vk_model::{At, Entry, Rule};
-use vk_order::{Action, Point};
+use vk_history::History;
+use vk_model::{Action, At, Entry, Point, Rule, is_supported};
 use vk_queues::reference_order;
 
 /// The entries of a trace that breaks no rule. Only `validate` makes one. Contracts see the

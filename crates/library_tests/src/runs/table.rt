@@ -1,4 +1,5 @@
-use vk_trace::{RunError, Status};
+use vk_run::Status;
+use vk_trace::RunError;
 
 /// How a run ends.
 pub type Ending = Result<Status, RunError>;

@@ -3,10 +3,9 @@
 ghost use Rattle.std.specs.Prelude.{◌≡◌, ◌+◌, ◌*◌};
 ghost use Rattle.vk_model.specs.declared.command.Cmd.{Cmd as AnyCmd};
 ghost use Rattle.vk_model.specs.Trace.Point.{Run};
-ghost use Rattle.vk_order.specs.PointViews.{action_of};
+ghost use Rattle.vk_model.specs.Trace.PointViews.{action_of};
 
-use vk_model::{Cmd, Entry, SemaphoreSubmit};
-use vk_order::{Action, Point};
+use vk_model::{Action, Cmd, Entry, Point, SemaphoreSubmit};
 
 /// What happens at a point.
 #[derive(Drop)]

@@ -3,8 +3,8 @@
 use crate::expect::expect;
 use std::alloc::{AllocError, Global};
 use std::test::Fail;
-use vk_model::{Accesses, Cmd, Dependency, Element, Length, Sequence, Stages};
-use vk_order::{Access, Act, Action, Frontier, Line, NewNode, Point};
+use vk_model::{Accesses, Action, Cmd, Dependency, Element, Length, Point, Sequence, Stages};
+use vk_order::{Access, Act, Frontier, Line, NewNode};
 
 fn command<'a>(place: usize, command: &'a Cmd) -> Point<'a> {
     Point {

@@ -3,7 +3,7 @@ use Rattle.std.specs.Prelude.{◌≡◌, ℕ, List, [], ◌∷◌, length}
 use Rattle.vk_model.specs.Trace.Point.{Past, Point}
 use Rattle.vk_model.specs.Sync.Node.{Node, nodes}
 use Rattle.vk_order.specs.declared.acts.Row.{Row}
-use Rattle.vk_order.specs.PointViews.{nodes_after}
+use Rattle.vk_order.specs.NodeViews.{nodes_after}
 use Rattle.vk_past.specs.declared.creators.Creators.{Creators}
 use Rattle.vk_past.specs.Creators.{AreCreators}
 

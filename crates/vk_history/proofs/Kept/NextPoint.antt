@@ -27,7 +27,7 @@ use Rattle.vk_model.proofs.Lists.Members.{member_passes, map_has, contains-head}
 use Rattle.vk_model.proofs.Lists.Truths.{clash}
 use Rattle.vk_laws.proofs.Nodes.Steady.{made_step, made_until, new_ids}
 use Rattle.vk_history.specs.Judged.{IsJudged}
-use Rattle.vk_history.proofs.Points.Pasts.{supported-cons}
+use Rattle.vk_model.proofs.Trace.Supporting.{supported-cons}
 
 -- the past of a judged point is judged
 pub judged_rest : (past : Past) (p : Point) → IsJudged (p ∷ past) → IsJudged past

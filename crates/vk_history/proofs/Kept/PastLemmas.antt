@@ -9,8 +9,8 @@ use Rattle.std.proofs.lemmas.Option.{slice_get_within, get_or_from_slice_get}
 use Rattle.vk_model.specs.Trace.Point as spec
 use Rattle.vk_model.specs.Trace.Objects.{initial}
 use Rattle.vk_model.specs.Trace.Order.{counter, signaled, signal_of}
-use Rattle.vk_order.specs.declared.point.Point.{Point}
-use Rattle.vk_order.specs.PointViews.{point_of}
+use Rattle.vk_model.specs.declared.point.Point.{Point}
+use Rattle.vk_model.specs.Trace.PointViews.{point_of}
 use Rattle.vk_queues.specs.PointViews.{past_of, add}
 use Rattle.vk_history.specs.PointViews.{past, Walk}
 

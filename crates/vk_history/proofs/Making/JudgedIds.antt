@@ -20,9 +20,9 @@ use Rattle.vk_model.proofs.Rules.Fault.{unbroken_of_none}
 use Rattle.vk_model.proofs.Lists.Members.{contains-cons, none_in}
 use Rattle.vk_model.proofs.Trace.Structure.{entry_below, is_of_batch}
 use Rattle.vk_laws.proofs.Nodes.Steady.{made_until, new_ids, IsNew}
-use Rattle.vk_order.specs.declared.point.Action.{Action as AnyAction}
-use Rattle.vk_order.specs.declared.point.Action.TheVariants as action
-use Rattle.vk_order.specs.PointViews.{action_of}
+use Rattle.vk_model.specs.declared.point.Action.{Action as AnyAction}
+use Rattle.vk_model.specs.declared.point.Action.TheVariants as action
+use Rattle.vk_model.specs.Trace.PointViews.{action_of}
 use Rattle.vk_history.specs.Made.{Numbered, makes, last_creator, earlier_than}
 
 -- a point of a batch is no host entry

@@ -8,7 +8,7 @@ ghost use Rattle.vk_order.specs.Frontiers.{IsNewNode};
 ghost use Rattle.vk_touches.specs.Touched.{next_node};
 ghost use Rattle.vk_model.specs.Trace.Objects.{is_exclusive, image};
 ghost use Rattle.vk_order.specs.Lines.{place, line_of};
-ghost use Rattle.vk_order.specs.PointViews.{point_of};
+ghost use Rattle.vk_model.specs.Trace.PointViews.{point_of};
 ghost use Rattle.vk_order.specs.Wide.{IsApartFrom};
 ghost use Rattle.vk_history.specs.Owners.{IsOwned, kept_of};
 ghost use Rattle.vk_model.specs.World.Effect.{world};
@@ -21,8 +21,8 @@ use crate::element_parts::ElementPart;
 use crate::history::History;
 use crate::owners::Owned;
 use std::alloc::AllocError;
-use vk_model::{Element, Layout, SubresourceRange};
-use vk_order::{Act, NewNode, Point, Spot};
+use vk_model::{Element, Layout, Point, SubresourceRange};
+use vk_order::{Act, NewNode, Spot};
 use vk_touches::Bytes;
 
 impl<'a> History<'a> {

@@ -10,7 +10,7 @@ use Rattle.vk_order.specs.declared.acts.Row.{Row}
 use Rattle.vk_order.specs.declared.reads.Reader.{Reader}
 use Rattle.vk_order.specs.declared.writes.Write.{Write}
 use Rattle.vk_order.specs.declared.writes.First.{First}
-use Rattle.vk_order.specs.PointViews.{act_of, node_of, nodes_after}
+use Rattle.vk_order.specs.NodeViews.{act_of, node_of, nodes_after}
 use Rattle.vk_order.specs.Bytes.{byte_of}
 use Rattle.vk_order.specs.Wide.{access_of}
 use Rattle.vk_order.specs.Lines.{line_of}

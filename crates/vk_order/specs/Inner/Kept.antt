@@ -6,7 +6,7 @@ use Rattle.vk_model.specs.Sync.Node.{Node, Act, Hosts, Signals, Depends, SetOf}
 use Rattle.vk_order.specs.declared.acts.Row.{Row}
 use Rattle.vk_order.specs.declared.clocks.Stamp.{Stamp}
 use Rattle.vk_order.specs.declared.lines.Line.{Line}
-use Rattle.vk_order.specs.PointViews.{node_of, nodes_after}
+use Rattle.vk_order.specs.NodeViews.{node_of, nodes_after}
 use Rattle.vk_order.specs.Lines.{line_of, class_of, place}
 use Rattle.vk_order.specs.Inner.Places.{index_in}
 use Rattle.vk_order.specs.Inner.Clocks.{Clock, IsClock, IsJoin, itself}

@@ -13,7 +13,8 @@ use Rattle.vk_order.specs.declared.lines.Line.{Line}
 use Rattle.vk_order.specs.declared.fronts.Front.{Front}
 use Rattle.vk_order.specs.declared.keyed.Keyed.{Keyed}
 use Rattle.vk_order.specs.declared.names.Names.{Names}
-use Rattle.vk_order.specs.PointViews.{act_of, point_of}
+use Rattle.vk_model.specs.Trace.PointViews.{point_of}
+use Rattle.vk_order.specs.NodeViews.{act_of}
 use Rattle.vk_order.specs.Prefixes.{submits}
 use Rattle.vk_order.specs.Inner.Fronts.{IsNamed, IsOwnFront}
 use Rattle.vk_order.specs.Inner.Keyed.{front_at}

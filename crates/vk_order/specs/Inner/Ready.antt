@@ -4,7 +4,7 @@ use Rattle.vk_order.specs.declared.acts.Row.{Row}
 use Rattle.vk_order.specs.declared.clocks.Stamp.{Stamp}
 use Rattle.vk_order.specs.declared.frontier.Frontier.{Frontier}
 use Rattle.vk_order.specs.declared.lines.Line.{Line}
-use Rattle.vk_order.specs.PointViews.{nodes_after}
+use Rattle.vk_order.specs.NodeViews.{nodes_after}
 use Rattle.vk_order.specs.Inner.Kept.{IsStamped, IsLonger}
 use Rattle.vk_order.specs.Inner.Tallies.{lines_of}
 use Rattle.vk_order.specs.Frontiers.{IsFrontier}

@@ -7,7 +7,8 @@ use Rattle.vk_order.specs.declared.acts.Row.{Row}
 use Rattle.vk_order.specs.declared.fronts.Front.{Front}
 use Rattle.vk_order.specs.declared.lines.Line.{Line}
 use Rattle.vk_order.specs.declared.tallies.LineTally.{LineTally}
-use Rattle.vk_order.specs.PointViews.{act_of, point_of, node_of}
+use Rattle.vk_model.specs.Trace.PointViews.{point_of}
+use Rattle.vk_order.specs.NodeViews.{act_of, node_of}
 use Rattle.vk_order.specs.Lines.{class_of, class_on, same_line, place}
 use Rattle.vk_order.specs.Inner.Leads.{line_leads}
 use Rattle.vk_order.specs.Inner.Links.{by_name}

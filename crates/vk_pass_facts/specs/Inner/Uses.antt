@@ -7,7 +7,7 @@ use Rattle.vk_model.specs.Trace.Point.{Past, Point}
 use Rattle.vk_model.specs.Sync.Node.{Node, nodes, next_nodes}
 use Rattle.vk_model.specs.Sync.Edge.{is_element}
 use Rattle.vk_model.specs.Sync.Complete.{named_by_act, nodes_for, is_complete}
-use Rattle.vk_order.specs.PointViews.{nodes_after}
+use Rattle.vk_order.specs.NodeViews.{nodes_after}
 use Rattle.vk_pass_facts.specs.declared.newest.Newest.{Newest}
 use Rattle.vk_pass_facts.specs.declared.timeline.Timeline.{Timeline}
 use Rattle.vk_pass_facts.specs.declared.named.Named.{Named}

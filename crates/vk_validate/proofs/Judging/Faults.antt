@@ -15,15 +15,15 @@ use Rattle.vk_model.specs.Trace.Structure.{IsOrdered}
 use Rattle.vk_model.specs.Rules.Table.{first_rule, fault, first_fault}
 use Rattle.vk_model.proofs.Rules.Fault.{no_fault-cons}
 use Rattle.vk_model.proofs.Trace.Structure.{order_ordered}
-use Rattle.vk_order.specs.declared.point.Point.{Point}
-use Rattle.vk_order.specs.PointViews.{point_of, action_of}
+use Rattle.vk_model.specs.declared.point.Point.{Point}
+use Rattle.vk_model.specs.Trace.PointViews.{point_of, action_of}
 use Rattle.vk_queues.specs.PointViews.{past_of, add}
-use Rattle.vk_history.specs.Supported.{is_supported, is_supported_action}
+use Rattle.vk_model.specs.Trace.Supported.{is_supported, is_supported_action}
 use Rattle.vk_history.specs.PointViews.{past, Walk}
 use Rattle.vk_history.specs.Judged.{IsJudged}
 use Rattle.vk_validate.specs.Faults.{reported_rule, reported_fault}
 use Rattle.vk_validate.specs.Acceptable.{IsAcceptable}
-use Rattle.vk_history.proofs.Points.Pasts.{supported-cons, supported-next}
+use Rattle.vk_model.proofs.Trace.Supporting.{supported-cons, supported-next}
 use Rattle.vk_history.proofs.Kept.PastLemmas.{past-next}
 
 -- ---- the first of the points of which a rule is reported

@@ -3,15 +3,14 @@ ghost use Rattle.vk_model.specs.Basics.{round_up};
 ghost use Rattle.vk_model.specs.Trace.Image.{image_size};
 ghost use Rattle.vk_model.specs.Trace.Objects.{Resource, of_buffer, of_image};
 ghost use Rattle.vk_model.specs.Rules.Binding as binding;
-ghost use Rattle.vk_order.specs.PointViews.{point_of};
+ghost use Rattle.vk_model.specs.Trace.PointViews.{point_of};
 ghost use Rattle.vk_history.specs.PointViews.{past};
 ghost use Rattle.vk_validate.specs.Inner.RuleParts.{ends_past_object, is_misplaced_at, is_aliased_at};
 
 use crate::rules::sizes::takes_more;
 use vk_history::History;
 use vk_image_tiles::{asks_more, image_align};
-use vk_model::{BufferInfo, Entry, ImageInfo, Kind, Place};
-use vk_order::{Action, Point};
+use vk_model::{Action, BufferInfo, Entry, ImageInfo, Kind, Place, Point};
 
 /// The greatest size that a resource may ask for in bytes.
 const GREATEST_SIZE: u64 = 67_108_864;

@@ -4,14 +4,13 @@ ghost use Rattle.std.specs.Prelude.{◌≡◌, ◌∷◌};
 ghost use Rattle.std.specs.List.{find};
 ghost use Rattle.std.specs.Option.{option_map};
 ghost use Rattle.vk_model.specs.Trace.Structure.{IsOrdered};
-ghost use Rattle.vk_order.specs.PointViews.{point_of};
+ghost use Rattle.vk_model.specs.Trace.PointViews.{point_of};
 ghost use Rattle.vk_history.specs.PointViews.{past};
 ghost use Rattle.vk_validate.specs.Inner.Early.{breaks_early, on_buffers, on_barriers, AreSearched};
 
 use crate::rules::{Searched, ids, layouts, owners, passes, ranges, sizes, synchronization};
 use vk_history::History;
-use vk_model::Rule;
-use vk_order::Point;
+use vk_model::{Point, Rule};
 
 /// The first early rule that a fill, an update or a copy between buffers breaks.
 pub fn first_on_buffers(

@@ -7,7 +7,7 @@ ghost use Rattle.vk_model.specs.Trace.Structure.{IsOrdered};
 ghost use Rattle.vk_model.specs.Rules.Hazards as rule;
 ghost use Rattle.vk_model.specs.Rules.Ids.{is_resource};
 ghost use Rattle.vk_model.specs.Sync.Complete.{some_busy};
-ghost use Rattle.vk_order.specs.PointViews.{action_of, point_of};
+ghost use Rattle.vk_model.specs.Trace.PointViews.{action_of, point_of};
 ghost use Rattle.vk_history.specs.declared.changes.Change.TheVariants as change;
 ghost use Rattle.vk_history.specs.PointViews.{past};
 ghost use Rattle.vk_history.specs.Judged.{early_rules, first_among};
@@ -23,8 +23,8 @@ use crate::rules::hazards::clears::of_clear;
 use crate::rules::hazards::copies::{of_copy, of_copy_image, of_copy_in, of_copy_out};
 use std::alloc::AllocError;
 use vk_history::{Change, History, change_by};
-use vk_model::{Entry, Length};
-use vk_order::{Access, Action, Point, flushed_seen, host_seen, invalidated_seen, prefixes};
+use vk_model::{Action, Entry, Length, Point};
+use vk_order::{Access, flushed_seen, host_seen, invalidated_seen, prefixes};
 use vk_touches::Conflicts;
 
 /// What a point that breaks no rule before those on accesses finds wrong with the bytes that it

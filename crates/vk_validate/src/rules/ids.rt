@@ -5,13 +5,12 @@ ghost use Rattle.vk_model.specs.Trace.Objects.{live, defrag_in, pool_of};
 ghost use Rattle.vk_model.specs.Trace.Point.{Past, on_host};
 ghost use Rattle.vk_model.specs.Trace.Structure.{IsOrdered};
 ghost use Rattle.vk_model.specs.Rules.Ids as ids;
-ghost use Rattle.vk_order.specs.PointViews.{action_of, point_of};
+ghost use Rattle.vk_model.specs.Trace.PointViews.{action_of, point_of};
 ghost use Rattle.vk_history.specs.PointViews.{past};
 ghost use Rattle.vk_validate.specs.Inner.RuleParts.{is_dead_for, some_dead};
 
 use vk_history::History;
-use vk_model::{Cmd, Element, Entry, Place, SemaphoreValue};
-use vk_order::{Action, Point};
+use vk_model::{Action, Cmd, Element, Entry, Place, Point, SemaphoreValue};
 
 /// NEW_ID: the id made was made before.
 pub fn breaks_new_id(history: &History<'_>, point: &Point<'_>) -> bool

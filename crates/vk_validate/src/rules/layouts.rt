@@ -3,13 +3,14 @@ ghost use Rattle.std.specs.List.{list_any};
 ghost use Rattle.vk_model.specs.World.Effect.{world};
 ghost use Rattle.vk_model.specs.World.Ownership as ownership;
 ghost use Rattle.vk_model.specs.Rules.Layouts as layouts;
-ghost use Rattle.vk_order.specs.PointViews.{point_of};
+ghost use Rattle.vk_model.specs.Trace.PointViews.{point_of};
 ghost use Rattle.vk_history.specs.PointViews.{past};
 
 use vk_history::{History, family_of, is_transition};
 use vk_layouts::Transfer;
-use vk_model::{BufferImageCopy, Cmd, Element, Families, ImageCopy, Layout, SubresourceRange};
-use vk_order::{Action, Point};
+use vk_model::{
+    Action, BufferImageCopy, Cmd, Element, Families, ImageCopy, Layout, Point, SubresourceRange,
+};
 
 /// LAYOUT: a layout that isn't allowed for its use or isn't current, or a transition between layouts
 /// that it can't have.

@@ -3,12 +3,11 @@ ghost use Rattle.std.specs.List.{list_any};
 ghost use Rattle.vk_model.specs.Trace.Objects.{is_of_type, memory_of};
 ghost use Rattle.vk_model.specs.Rules.Mapping as mapping;
 ghost use Rattle.vk_model.specs.Rules.Mapping.{is_mapped};
-ghost use Rattle.vk_order.specs.PointViews.{point_of};
+ghost use Rattle.vk_model.specs.Trace.PointViews.{point_of};
 ghost use Rattle.vk_history.specs.PointViews.{past};
 
 use vk_history::History;
-use vk_model::Entry;
-use vk_order::{Action, Point};
+use vk_model::{Action, Entry, Point};
 
 /// MAP_STATE: a memory object mapped twice, an access or an unmap of what isn't mapped, or the end of a
 /// mapped allocation of the resource's own.

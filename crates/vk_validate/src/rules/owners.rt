@@ -6,14 +6,13 @@ ghost use Rattle.vk_model.specs.Trace.Objects.{image};
 ghost use Rattle.vk_model.specs.Trace.Point.{Run};
 ghost use Rattle.vk_model.specs.Trace.Structure.{IsOrdered};
 ghost use Rattle.vk_model.specs.Rules.Owners as owners;
-ghost use Rattle.vk_order.specs.PointViews.{action_of, point_of};
+ghost use Rattle.vk_model.specs.Trace.PointViews.{action_of, point_of};
 ghost use Rattle.vk_history.specs.PointViews.{past};
 
 use crate::halves::{Changed, is_bad_half};
 use std::alloc::AllocError;
 use vk_history::History;
-use vk_model::{Cmd, Element, Families, ImageInfo, Length, SubresourceRange};
-use vk_order::{Action, Point};
+use vk_model::{Action, Cmd, Element, Families, ImageInfo, Length, Point, SubresourceRange};
 
 /// OWNER_WHOLE: an ownership transfer of less than a whole resource.
 pub fn breaks_owner_whole(history: &History<'_>, point: &Point<'_>) -> bool

@@ -5,7 +5,7 @@ ghost use Rattle.vk_model.specs.Trace.Point.{Host};
 ghost use Rattle.vk_model.specs.Trace.Objects.{pool, pool_of};
 ghost use Rattle.vk_model.specs.Rules.Passes as passes;
 ghost use Rattle.vk_order.specs.Frontiers.{IsNewNode};
-ghost use Rattle.vk_order.specs.PointViews.{action_of, point_of};
+ghost use Rattle.vk_model.specs.Trace.PointViews.{action_of, point_of};
 ghost use Rattle.vk_model.specs.Sync.Node.{command_acts, nodes, Hosts};
 ghost use Rattle.vk_model.specs.Sync.Access.{transition_bytes};
 ghost use Rattle.vk_touches.specs.Touched.{next_node};
@@ -17,8 +17,8 @@ use crate::written::{written, written_by_element};
 use std::alloc::AllocError;
 use vk_history::History;
 use vk_laws::written_by_host;
-use vk_model::{Cmd, Element, Entry, Place, PoolInfo, PoolKind};
-use vk_order::{Action, NewNode, Point};
+use vk_model::{Action, Cmd, Element, Entry, Place, Point, PoolInfo, PoolKind};
+use vk_order::NewNode;
 
 /// POOL_KIND: a defragmentation of a linear pool, or a place at the upper end of a pool that has none.
 pub fn breaks_pool_kind(history: &History<'_>, point: &Point<'_>) -> bool

@@ -7,7 +7,7 @@ ghost use Rattle.vk_model.specs.Trace.Objects as objects;
 ghost use Rattle.vk_model.specs.World.ByteWrites.{buffer_size};
 ghost use Rattle.vk_model.specs.World.Areas.{region_box, source_box, destination_box};
 ghost use Rattle.vk_model.specs.Rules.Ranges as ranges;
-ghost use Rattle.vk_order.specs.PointViews.{point_of};
+ghost use Rattle.vk_model.specs.Trace.PointViews.{point_of};
 ghost use Rattle.vk_history.specs.PointViews.{past};
 ghost use Rattle.vk_validate.specs.Inner.RuleParts.{some_read_past, some_written_past, some_rows_past, some_box_outside, some_range_outside};
 
@@ -21,10 +21,9 @@ use std::alloc::AllocError;
 use vk_history::History;
 use vk_image_tiles::texel_size;
 use vk_model::{
-    BufferCopy, BufferImageCopy, Cmd, Element, Entry, Format, ImageCopy, ImageInfo, Length,
-    SubresourceRange,
+    Action, BufferCopy, BufferImageCopy, Cmd, Element, Entry, Format, ImageCopy, ImageInfo, Length,
+    Point, SubresourceRange,
 };
-use vk_order::{Action, Point};
 
 /// RANGE: bytes outside the buffer, to the end from the end or past it, or a row length or image height
 /// under the region's.

@@ -6,7 +6,7 @@ ghost use Rattle.vk_model.specs.Trace.Objects.{type_at};
 ghost use Rattle.vk_model.specs.Trace.Point.{Past};
 ghost use Rattle.vk_model.specs.declared.command.Element.TheVariants as element;
 ghost use Rattle.vk_model.specs.Rules.Sizes as sizes;
-ghost use Rattle.vk_order.specs.PointViews.{point_of};
+ghost use Rattle.vk_model.specs.Trace.PointViews.{point_of};
 ghost use Rattle.vk_history.specs.PointViews.{past};
 ghost use Rattle.vk_validate.specs.Inner.RuleParts.{is_over_half};
 
@@ -14,10 +14,9 @@ use bitflags::Flags;
 use vk_history::History;
 use vk_image_tiles::{asks_more, has_bad_shape};
 use vk_model::{
-    BufferCopy, BufferInfo, Cmd, Element, Entry, ImageElement, ImageInfo, Kind, Layout, Length,
-    Place, PoolInfo, Usage,
+    Action, BufferCopy, BufferInfo, Cmd, Element, Entry, ImageElement, ImageInfo, Kind, Layout,
+    Length, Place, Point, PoolInfo, Usage,
 };
-use vk_order::{Action, Point};
 
 /// The greatest size of a memory object in bytes.
 const GREATEST_MEMORY: u64 = 67_108_864;

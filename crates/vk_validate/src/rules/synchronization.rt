@@ -7,15 +7,14 @@ ghost use Rattle.vk_model.specs.Sync.Edge.{host_stage};
 ghost use Rattle.vk_model.specs.Rules.Synchronization.{known_stages};
 ghost use Rattle.vk_model.specs.World.Ownership.{dependency_of};
 ghost use Rattle.vk_model.specs.Rules.Synchronization as sync;
-ghost use Rattle.vk_order.specs.PointViews.{action_of, point_of};
+ghost use Rattle.vk_model.specs.Trace.PointViews.{action_of, point_of};
 ghost use Rattle.vk_history.specs.PointViews.{past};
 
 use crate::scopes::{BY_HOST, BY_TRANSFERS, KNOWN_ACCESSES, KNOWN_STAGES, TRANSFERS};
 use bitflags::Flags;
 use std::alloc::AllocError;
 use vk_history::{History, signal_of};
-use vk_model::{Accesses, Cmd, Dependency, Element, Entry, SemaphoreValue, Stages};
-use vk_order::{Action, Point};
+use vk_model::{Accesses, Action, Cmd, Dependency, Element, Entry, Point, SemaphoreValue, Stages};
 
 /// STAGE: a stage or an access that isn't known, an access that none of the stages makes, or the host
 /// in a wait or signal of a batch, or in what an event's element comes after.

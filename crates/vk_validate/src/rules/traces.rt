@@ -1,7 +1,7 @@
 ghost use Rattle.std.specs.Prelude.{◌≡◌};
 ghost use Rattle.vk_model.specs.Trace.Point.{Point};
 ghost use Rattle.vk_model.specs.Rules.Traces.{breaks_limit};
-ghost use Rattle.vk_order.specs.PointViews.{action_of, point_of};
+ghost use Rattle.vk_model.specs.Trace.PointViews.{action_of, point_of};
 ghost use Rattle.vk_history.specs.PointViews.{past};
 
 use vk_history::History;

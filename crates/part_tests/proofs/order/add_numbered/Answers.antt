@@ -2,7 +2,7 @@ use Rattle.std.proofs.Common.{◌≡◌, ◌+◌, subst, sym}
 use Rattle.std.specs.Prelude.{List}
 use Rattle.std.proofs.lemmas.Result.{on_ok_weaker}
 use Rattle.vk_model.specs.Sync.Node.{Node}
-use Rattle.vk_order.specs.PointViews.{point_of}
+use Rattle.vk_model.specs.Trace.PointViews.{point_of}
 use Rattle.part_tests.proofs.DrawnPlaces.{AreBelow, stays_below}
 use Rattle.part_tests.proofs.order.add_numbered.Goals as goal
 

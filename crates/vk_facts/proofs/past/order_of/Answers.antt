@@ -1,7 +1,7 @@
 use Rattle.std.proofs.Common.{◌≡◌, ◌∷◌, take, length, sym, ap, ◌∙◌}
 use Rattle.vk_model.specs.Trace.Point.{Past}
 use Rattle.vk_model.specs.Sync.Node.{nodes, acts, with_acts}
-use Rattle.vk_order.specs.PointViews.{action_of, point_of}
+use Rattle.vk_model.specs.Trace.PointViews.{action_of, point_of}
 use Rattle.vk_queues.specs.PointViews.{past_of}
 use Rattle.vk_past.proofs.PastLemmas.{past_item}
 use Rattle.vk_facts.proofs.past.order_of.Goals as goal

@@ -1,7 +1,7 @@
 use Rattle.std.proofs.Common.{ℕ, ◌≡◌, ◌∷◌, ◌∙◌, ap, length}
 use Rattle.vk_model.specs.Rules.Fault.{newest}
 use Rattle.vk_model.specs.Sync.Node.{nodes}
-use Rattle.vk_order.specs.PointViews.{point_of}
+use Rattle.vk_model.specs.Trace.PointViews.{point_of}
 use Rattle.vk_queues.proofs.NewPoints.{ordered_new}
 use Rattle.vk_order.specs.declared.lines.Line.{Line}
 use Rattle.vk_touches.specs.declared.touches.Spot.{Spot}

@@ -1,6 +1,6 @@
 use Rattle.std.proofs.Common.{[], List, sym, subst}
 use Rattle.vk_order.specs.declared.fronts.Front.{Front}
-use Rattle.vk_order.specs.PointViews.{nodes_after}
+use Rattle.vk_order.specs.NodeViews.{nodes_after}
 use Rattle.vk_order.specs.Inner.Tallies.{lines_of, AreFronts}
 use Rattle.vk_order.proofs.StampedLemmas.{stamped_longer}
 use Rattle.vk_order.proofs.adding.stamped.Goals as goal

@@ -1,7 +1,7 @@
 use Rattle.std.proofs.Common.{◌≡◌, ◌++◌, [], List, take}
 use Rattle.vk_order.specs.declared.acts.Row.{Row}
 use Rattle.vk_order.specs.declared.clocks.Stamp.{Stamp}
-use Rattle.vk_order.specs.PointViews.{nodes_after}
+use Rattle.vk_order.specs.NodeViews.{nodes_after}
 use Rattle.vk_order.specs.Inner.Kept.{IsStamped}
 use Rattle.vk_order.specs.Inner.Tallies.{lines_of, CanFollow, AreFronts}
 use Rattle.vk_order.specs.Frontiers.{IsFrontier}

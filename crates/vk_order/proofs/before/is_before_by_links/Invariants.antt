@@ -1,7 +1,7 @@
 use Rattle.std.proofs.Common.{◌≡◌, ◌<◌, ℕ, Some, false}
 use Rattle.std.specs.Prelude.{slice_get}
 use Rattle.vk_order.specs.declared.acts.Row.{Row}
-use Rattle.vk_order.specs.PointViews.{act_of}
+use Rattle.vk_order.specs.NodeViews.{act_of}
 use Rattle.vk_order.specs.Inner.Kept.{IsStamped, IsSet}
 use Rattle.vk_order.proofs.SetLemmas.{is_step}
 use Rattle.vk_order.proofs.before.is_before_by_links.Given as goal

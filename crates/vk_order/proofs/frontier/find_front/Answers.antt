@@ -1,6 +1,6 @@
 use Rattle.std.proofs.Common.{Bool}
 use Rattle.vk_model.specs.Sync.Node.{Node}
-use Rattle.vk_order.specs.PointViews.{act_of}
+use Rattle.vk_order.specs.NodeViews.{act_of}
 use Rattle.vk_order.specs.Lines.{class_of}
 use Rattle.vk_order.specs.Inner.Leads.{line_leads}
 use Rattle.vk_order.specs.Inner.Tallies.{lines_of}

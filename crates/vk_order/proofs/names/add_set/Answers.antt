@@ -1,9 +1,9 @@
 use Rattle.std.proofs.Common.{◌≡◌, ℕ, Option, false, refl, ap, sym, subst}
 use Rattle.vk_model.specs.declared.command.Dependency.{Dependency}
 use Rattle.vk_order.specs.declared.fronts.Front.{Front}
-use Rattle.vk_order.specs.declared.point.Act.{Act}
-use Rattle.vk_order.specs.declared.point.Act.TheVariants as act
-use Rattle.vk_order.specs.PointViews.{act_of}
+use Rattle.vk_order.specs.declared.act.Act.{Act}
+use Rattle.vk_order.specs.declared.act.Act.TheVariants as act
+use Rattle.vk_order.specs.NodeViews.{act_of}
 use Rattle.vk_order.specs.Inner.Fronts.{IsNamed}
 use Rattle.vk_order.specs.Inner.Keyed.{front_at}
 use Rattle.vk_order.specs.Inner.Names.{is_set_of}

@@ -3,7 +3,7 @@ use Rattle.std.proofs.lemmas.Option.{slice_get-get_or}
 use Rattle.vk_model.specs.Basics.{holds}
 use Rattle.vk_order.specs.declared.lines.Line.{Line}
 use Rattle.vk_order.specs.declared.tallies.LineTally.{LineTally}
-use Rattle.vk_order.specs.PointViews.{act_of}
+use Rattle.vk_order.specs.NodeViews.{act_of}
 use Rattle.vk_order.specs.Lines.{same_line}
 use Rattle.vk_order.proofs.OwnLemmas.{index_low, available_counted, available_none, available_as_well}
 use Rattle.vk_order.proofs.owning.count_available.Goals as goal

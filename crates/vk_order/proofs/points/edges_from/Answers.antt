@@ -4,7 +4,7 @@ use Rattle.vk_model.specs.Sync.Edge.{by_semaphore}
 use Rattle.vk_order.specs.Edges.{unsignaled}
 use Rattle.vk_order.specs.Inner.Reaches.{Reaches}
 use Rattle.vk_order.specs.Queries.{led_to}
-use Rattle.vk_order.specs.PointViews.{node_of, nodes_after}
+use Rattle.vk_order.specs.NodeViews.{node_of, nodes_after}
 use Rattle.vk_order.proofs.EdgeLemmas.{IsWalked, first_nodes, walked-on, walked-past, found-all, row_is}
 use Rattle.vk_order.proofs.points.edges_from.Goals.{then-leads+then-node-number+in_ok-push, else-leads, else-leads-via-then-leads+else-node-number, else-leads-via-else-leads}
 use Rattle.vk_order.proofs.points.edges_from.Goals as goal

@@ -1,4 +1,4 @@
-use Rattle.vk_order.specs.PointViews.{node_of}
+use Rattle.vk_order.specs.NodeViews.{node_of}
 use Rattle.vk_order.proofs.EdgeLemmas.{IsWalked}
 use Rattle.vk_order.proofs.points.edges_from.Given as goal
 

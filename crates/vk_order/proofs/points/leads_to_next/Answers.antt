@@ -1,7 +1,7 @@
 use Rattle.std.proofs.Common.{◌≡◌, ap, sym, ◌∙◌, refl, Bool, false, ◌||◌}
 use Rattle.vk_model.specs.Sync.Edge.{by_semaphore}
 use Rattle.vk_order.specs.Edges.{unsignaled}
-use Rattle.vk_order.specs.PointViews.{node_of}
+use Rattle.vk_order.specs.NodeViews.{node_of}
 use Rattle.vk_order.proofs.points.leads_to_next.Goals as goal
 
 pub returns-else-leads_to : goal.returns-else-leads_to

@@ -4,7 +4,7 @@ use Rattle.std.proofs.lemmas.Bool.{le-ltb}
 use Rattle.std.proofs.lemmas.Option.{slice_get_read}
 use Rattle.std.proofs.Math.Bool.{and-false}
 use Rattle.vk_model.specs.Sync.Seen.{flushes}
-use Rattle.vk_order.specs.PointViews.{act_of}
+use Rattle.vk_order.specs.NodeViews.{act_of}
 use Rattle.vk_order.specs.Bytes.{byte_of}
 use Rattle.vk_order.proofs.AvailabilityLemmas.{below_more}
 use Rattle.vk_order.proofs.reads.first_flush.Goals.{else-number-flush-via-then-number-flush+else-flushes, else-number-flush-via-else-number-flush}

@@ -1,6 +1,7 @@
 use Rattle.std.proofs.Common.{◌+◌, ◌++◌, List, refl, sym, ap, ◌∙◌, map, drop}
 use Rattle.vk_order.specs.declared.acts.Row.{Row}
-use Rattle.vk_order.specs.PointViews.{act_of, point_of, nodes_after}
+use Rattle.vk_model.specs.Trace.PointViews.{point_of}
+use Rattle.vk_order.specs.NodeViews.{act_of, nodes_after}
 use Rattle.vk_model.specs.Sync.Node.{with_acts}
 use Rattle.vk_order.proofs.RowLemmas.{rows-step, row_acts-step, row_push}
 use Rattle.vk_order.proofs.rows.rows_of.Goals as goal

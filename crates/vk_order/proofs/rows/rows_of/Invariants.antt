@@ -2,7 +2,8 @@ use Rattle.std.proofs.Common.{◌≡◌, ◌++◌, ℕ, List, Some, map, drop}
 use Rattle.std.specs.Prelude.{slice_get}
 use Rattle.vk_model.specs.Sync.Node.{Node, with_acts}
 use Rattle.vk_order.specs.declared.acts.Row.{Row}
-use Rattle.vk_order.specs.PointViews.{act_of, point_of, nodes_after}
+use Rattle.vk_model.specs.Trace.PointViews.{point_of}
+use Rattle.vk_order.specs.NodeViews.{act_of, nodes_after}
 use Rattle.vk_order.proofs.rows.rows_of.Given as goal
 
 abbrev pub invariant-loop-act : goal.invariant-loop-act

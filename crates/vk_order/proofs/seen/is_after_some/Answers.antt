@@ -7,7 +7,7 @@ use Rattle.vk_model.specs.Sync.Before.{before}
 use Rattle.vk_order.specs.declared.acts.Row.{Row}
 use Rattle.vk_order.specs.declared.lines.Line.TheVariants.{Host as OfHost}
 use Rattle.vk_order.specs.declared.writes.First.{First}
-use Rattle.vk_order.specs.PointViews.{node_of, nodes_after}
+use Rattle.vk_order.specs.NodeViews.{node_of, nodes_after}
 use Rattle.vk_order.proofs.seen.is_after_some.Goals as goal
 use Rattle.vk_model.proofs.Lists.Items.{some_same}
 

@@ -1,7 +1,7 @@
 use Rattle.std.proofs.Common.{◌≡◌, [], Bool, Some, true, false, ⊎_elim, not, refl, ap, sym, ◌∙◌}
 use Rattle.vk_model.proofs.Lists.Truths.{no, clash, unless, bool_same}
 use Rattle.vk_order.specs.declared.acts.Row.{Row}
-use Rattle.vk_order.specs.PointViews.{node_of, nodes_after}
+use Rattle.vk_order.specs.NodeViews.{node_of, nodes_after}
 use Rattle.vk_order.specs.Inner.Availability.{makes_write_available, is_marked, is_after}
 use Rattle.vk_order.proofs.NamedLemmas.{node_there}
 use Rattle.vk_order.proofs.AfterLemmas.{marked_after, first_after, after_found, first_before}

@@ -3,7 +3,7 @@ use Rattle.std.specs.Prelude.{slice_get}
 use Rattle.std.proofs.lemmas.Option.{slice_get_read}
 use Rattle.vk_model.specs.Sync.Seen.{seen}
 use Rattle.vk_order.specs.declared.acts.Row.{Row}
-use Rattle.vk_order.specs.PointViews.{node_of, nodes_after}
+use Rattle.vk_order.specs.NodeViews.{node_of, nodes_after}
 use Rattle.vk_order.specs.Bytes.{byte_of}
 use Rattle.vk_order.specs.Wide.{access_of}
 use Rattle.vk_order.specs.Inner.Availability.{IsFrom, IsInTime}

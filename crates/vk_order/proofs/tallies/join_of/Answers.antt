@@ -3,7 +3,7 @@ use Rattle.std.proofs.lemmas.Option.{slice_get-get_or}
 use Rattle.vk_model.proofs.Lists.Truths.{no}
 use Rattle.vk_order.specs.declared.fronts.Front.{Front}
 use Rattle.vk_order.specs.declared.tallies.LineTally.{LineTally}
-use Rattle.vk_order.specs.PointViews.{act_of}
+use Rattle.vk_order.specs.NodeViews.{act_of}
 use Rattle.vk_order.specs.Lines.{class_of, same_line}
 use Rattle.vk_order.specs.Inner.Leads.{line_leads}
 use Rattle.vk_order.specs.Inner.Fronts.{IsFront}

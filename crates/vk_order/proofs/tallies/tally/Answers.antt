@@ -4,7 +4,7 @@ use Rattle.std.proofs.lemmas.Option.{slice_get_read}
 use Rattle.std.proofs.Math.Seq.{map-set_same}
 use Rattle.vk_order.specs.declared.tallies.LineTally.{LineTally}
 use Rattle.vk_order.specs.declared.lines.Line.{Line}
-use Rattle.vk_order.specs.PointViews.{act_of}
+use Rattle.vk_order.specs.NodeViews.{act_of}
 use Rattle.vk_order.specs.Lines.{class_on, is_of_sets}
 use Rattle.vk_order.specs.Inner.Tallies.{lines_of}
 use Rattle.vk_order.proofs.OwnLemmas.{index_low}

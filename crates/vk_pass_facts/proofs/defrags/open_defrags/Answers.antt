@@ -1,6 +1,6 @@
 use Rattle.std.proofs.Common.{◌≡◌, ◌+◌, List, take, Vec, Global, ap, sym, ◌∙◌, subst, arith}
 use Rattle.std.proofs.lemmas.List.{take_all}
-use Rattle.vk_order.specs.declared.point.Point.{Point as ProgramPoint}
+use Rattle.vk_model.specs.declared.point.Point.{Point as ProgramPoint}
 use Rattle.vk_queues.specs.PointViews.{past_of}
 use Rattle.vk_pass_facts.specs.declared.defrags.OpenDefrag.{OpenDefrag}
 use Rattle.vk_pass_facts.specs.Inner.Kept.{AreDefrags}

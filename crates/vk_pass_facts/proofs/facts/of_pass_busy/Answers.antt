@@ -1,4 +1,4 @@
-use Rattle.vk_order.specs.PointViews.{point_of}
+use Rattle.vk_model.specs.Trace.PointViews.{point_of}
 use Rattle.vk_queues.specs.PointViews.{past_of}
 use Rattle.vk_pass_facts.proofs.BusyLemmas.{reported_broken}
 use Rattle.vk_pass_facts.proofs.facts.of_pass_busy.Goals as goal

@@ -1,4 +1,4 @@
-use Rattle.vk_order.specs.PointViews.{point_of}
+use Rattle.vk_model.specs.Trace.PointViews.{point_of}
 use Rattle.vk_queues.specs.PointViews.{past_of}
 use Rattle.vk_past.proofs.PastLemmas.{past_has}
 use Rattle.vk_pass_facts.proofs.CommandLemmas.{submits_it}

@@ -1,7 +1,8 @@
 use Rattle.std.proofs.Common.{[], List, sym, ap, ◌∙◌}
 use Rattle.vk_model.specs.Sync.Node.{nodes, acts, with_acts}
 use Rattle.vk_order.specs.declared.acts.Row.{Row}
-use Rattle.vk_order.specs.PointViews.{action_of, point_of, nodes_after}
+use Rattle.vk_model.specs.Trace.PointViews.{action_of, point_of}
+use Rattle.vk_order.specs.NodeViews.{nodes_after}
 use Rattle.vk_order.proofs.RowLemmas.{nodes_after-append}
 use Rattle.vk_past.proofs.PastLemmas.{past_item}
 use Rattle.vk_past.proofs.nodes.all_rows.Goals as goal

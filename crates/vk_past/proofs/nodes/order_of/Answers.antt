@@ -1,6 +1,6 @@
 use Rattle.std.proofs.Common.{sym, ap, ◌∙◌}
 use Rattle.vk_model.specs.Sync.Node.{nodes, acts, with_acts}
-use Rattle.vk_order.specs.PointViews.{action_of, point_of}
+use Rattle.vk_model.specs.Trace.PointViews.{action_of, point_of}
 use Rattle.vk_past.proofs.PastLemmas.{past_item}
 use Rattle.vk_past.proofs.nodes.order_of.Goals as goal
 

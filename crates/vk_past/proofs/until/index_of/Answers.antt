@@ -1,8 +1,8 @@
 use Rattle.std.proofs.Common.{◌≡◌, List, take, length, sym, subst, ap, ◌∙◌, arith, ℕ}
 use Rattle.std.proofs.Math.Seq.{take-length}
 use Rattle.vk_model.specs.Trace.Point.{Past, at_of}
-use Rattle.vk_order.specs.declared.point.Point.{Point}
-use Rattle.vk_order.specs.PointViews.{point_of}
+use Rattle.vk_model.specs.declared.point.Point.{Point}
+use Rattle.vk_model.specs.Trace.PointViews.{point_of}
 use Rattle.vk_queues.specs.PointViews.{past_of}
 use Rattle.vk_past.specs.Until.{IsNowhere}
 use Rattle.vk_past.proofs.PastLemmas.{past_item}

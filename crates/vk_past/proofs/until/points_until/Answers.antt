@@ -3,8 +3,8 @@ use Rattle.std.specs.Prelude.{slice_get}
 use Rattle.vk_model.specs.Trace.Order.{order}
 use Rattle.vk_model.specs.Trace.Point.{at_of}
 use Rattle.vk_model.specs.Sync.Node.{nodes}
-use Rattle.vk_order.specs.declared.point.Point.{Point}
-use Rattle.vk_order.specs.PointViews.{point_of}
+use Rattle.vk_model.specs.declared.point.Point.{Point}
+use Rattle.vk_model.specs.Trace.PointViews.{point_of}
 use Rattle.vk_order.specs.Places.{IsApart}
 use Rattle.vk_order.specs.Queries.{IsNew}
 use Rattle.vk_queues.specs.PointViews.{past_of}

@@ -1,6 +1,6 @@
 use Rattle.std.proofs.Common.{◌≡◌, take, true}
 use Rattle.vk_queues.specs.PointViews.{past_of}
-use Rattle.vk_history.specs.Supported.{is_supported}
+use Rattle.vk_model.specs.Trace.Supported.{is_supported}
 use Rattle.vk_repairs.proofs.judging.are_supported.Given as goal
 
 -- the points so far are of supported forms

@@ -1,7 +1,7 @@
 use Rattle.std.proofs.Common.{◌≡◌, ℕ, List, subst, arith}
 use Rattle.vk_model.specs.Trace.Order.{order}
 use Rattle.vk_model.specs.Rules.Table.{first_fault}
-use Rattle.vk_order.specs.declared.point.Point.{Point}
+use Rattle.vk_model.specs.declared.point.Point.{Point}
 use Rattle.vk_queues.specs.PointViews.{past_of}
 use Rattle.vk_repairs.specs.declared.judging.Judged.{Judged}
 use Rattle.vk_repairs.specs.Starts.{sound_start, all_points, IsAmong}

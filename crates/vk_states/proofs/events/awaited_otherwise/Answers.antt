@@ -4,8 +4,8 @@ use Rattle.std.specs.List.{list_any}
 use Rattle.vk_model.specs.declared.command.Dependency.{Dependency}
 use Rattle.vk_model.specs.Trace.Point.{command_of}
 use Rattle.vk_model.specs.Rules.Synchronization.{set_by, sets, same_dependencies}
-use Rattle.vk_order.specs.declared.point.Point.{Point as ProgramPoint}
-use Rattle.vk_order.specs.PointViews.{action_of, point_of}
+use Rattle.vk_model.specs.declared.point.Point.{Point as ProgramPoint}
+use Rattle.vk_model.specs.Trace.PointViews.{action_of, point_of}
 use Rattle.vk_queues.specs.PointViews.{past_of}
 use Rattle.vk_states.specs.Events.{IsDifference}
 use Rattle.vk_states.proofs.EventLemmas.{newest_fails}

@@ -4,7 +4,7 @@ use Rattle.std.proofs.lemmas.Bool.{or_left}
 use Rattle.vk_model.specs.World.Effect.{world}
 use Rattle.vk_model.specs.World.Ownership.{elements_of}
 use Rattle.vk_model.specs.Rules.Layouts.{bad_transition}
-use Rattle.vk_order.specs.declared.point.Point.{Point as ProgramPoint}
+use Rattle.vk_model.specs.declared.point.Point.{Point as ProgramPoint}
 use Rattle.vk_queues.specs.PointViews.{past_of}
 use Rattle.vk_states.specs.Inner.LayoutSteps.{ShowLayouts}
 use Rattle.vk_states.proofs.RangeLemmas.{parts_bad, parts_reported, first_none}

@@ -4,7 +4,7 @@ use Rattle.std.specs.List.{find}
 use Rattle.vk_model.specs.Basics.{holds}
 use Rattle.vk_model.specs.Trace.Order.{signal_of}
 use Rattle.vk_model.proofs.Lists.Members.{found}
-use Rattle.vk_order.specs.PointViews.{action_of, point_of}
+use Rattle.vk_model.specs.Trace.PointViews.{action_of, point_of}
 use Rattle.vk_queues.specs.PointViews.{past_of}
 use Rattle.vk_states.specs.Signals.{signals}
 use Rattle.vk_states.proofs.signals.signal_order_of.Goals as goal

@@ -1,6 +1,6 @@
 use Rattle.std.proofs.Common.{ap, sym, ◌∙◌, ℕ}
 use Rattle.vk_model.specs.World.Ownership.{Stays, Release, Acquire, transfer}
-use Rattle.vk_order.specs.PointViews.{point_of}
+use Rattle.vk_model.specs.Trace.PointViews.{point_of}
 use Rattle.vk_history.specs.PointViews.{past}
 use Rattle.vk_touches.proofs.PartChanges.{if_ok}
 use Rattle.vk_validate.proofs.Judging.Halves.{owner_judges}

@@ -1,6 +1,6 @@
 use Rattle.std.proofs.Common.{refl}
 use Rattle.vk_model.specs.Rules.Table.{breaks}
-use Rattle.vk_order.specs.PointViews.{point_of}
+use Rattle.vk_model.specs.Trace.PointViews.{point_of}
 use Rattle.vk_history.specs.PointViews.{past}
 use Rattle.vk_validate.specs.Inner.Early.{breaks_early}
 use Rattle.vk_validate.proofs.Judging.Rules.{rest_unbroken}

@@ -1,5 +1,5 @@
 use Rattle.std.proofs.Common.{sym, ◌∙◌}
-use Rattle.vk_order.specs.PointViews.{point_of}
+use Rattle.vk_model.specs.Trace.PointViews.{point_of}
 use Rattle.vk_history.specs.PointViews.{past}
 use Rattle.vk_validate.proofs.Judging.Rules.{found_late}
 use Rattle.vk_validate.proofs.rules.first_late.Goals as goal

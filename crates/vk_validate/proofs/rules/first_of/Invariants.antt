@@ -1,6 +1,6 @@
 use Rattle.std.proofs.Common.{◌≡◌, drop}
 use Rattle.std.specs.List.{find}
-use Rattle.vk_order.specs.PointViews.{point_of}
+use Rattle.vk_model.specs.Trace.PointViews.{point_of}
 use Rattle.vk_history.specs.PointViews.{past}
 use Rattle.vk_validate.specs.Inner.Early.{breaks_early}
 use Rattle.vk_validate.proofs.rules.first_of.Given as goal

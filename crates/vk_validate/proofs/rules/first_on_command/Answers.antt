@@ -1,6 +1,6 @@
 use Rattle.std.proofs.Common.{◌∙◌, ap}
 use Rattle.vk_model.specs.Trace.Point.{Run}
-use Rattle.vk_order.specs.PointViews.{point_of}
+use Rattle.vk_model.specs.Trace.PointViews.{point_of}
 use Rattle.vk_history.specs.PointViews.{past}
 use Rattle.vk_validate.proofs.Judging.Rules.{commands_are, fills_are, updates_are, copies_are, barriers_are}
 use Rattle.vk_validate.proofs.rules.first_on_command.Goals as goal

@@ -1,5 +1,5 @@
 use Rattle.std.proofs.Common.{◌∙◌, ap}
-use Rattle.vk_order.specs.PointViews.{action_of}
+use Rattle.vk_model.specs.Trace.PointViews.{action_of}
 use Rattle.vk_validate.proofs.Judging.Rules.{commands_are, early_are}
 use Rattle.vk_validate.proofs.rules.rules_on.Goals as goal
 

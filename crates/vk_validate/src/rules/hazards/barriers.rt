@@ -8,7 +8,7 @@ ghost use Rattle.vk_model.specs.Trace.Structure.{IsOrdered};
 ghost use Rattle.vk_model.specs.Sync.Access.{transition_bytes};
 ghost use Rattle.vk_model.specs.World.Ownership as ownership;
 ghost use Rattle.vk_image_bytes.specs.Ranges.{AreRanges};
-ghost use Rattle.vk_order.specs.PointViews.{action_of, point_of};
+ghost use Rattle.vk_model.specs.Trace.PointViews.{action_of, point_of};
 ghost use Rattle.vk_history.specs.Contents.{AreShort};
 ghost use Rattle.vk_history.specs.PointViews.{past};
 ghost use Rattle.vk_history.specs.Judged.{early_rules, first_among};
@@ -20,8 +20,8 @@ use crate::written::is_release;
 use std::alloc::AllocError;
 use vk_history::{ElementPart, History, ResourceContents, is_transition};
 use vk_image_bytes::{ByteRanges, ImageBytes};
-use vk_model::{Element, ImageElement, SubresourceRange};
-use vk_order::{NewNode, Point, elements_are_alone, host_seen, prefixes};
+use vk_model::{Element, ImageElement, Point, SubresourceRange};
+use vk_order::{NewNode, elements_are_alone, host_seen, prefixes};
 use vk_touches::{Conflicts, TransitionAccess};
 
 /// The bytes that a layout transition reads and writes.

@@ -2,7 +2,7 @@ ghost use Rattle.std.specs.Prelude.{◌≡◌, ◌≤◌, ℕ, List, IfOk, None,
 ghost use Rattle.vk_model.specs.declared.command.Cmd.TheVariants as cmd;
 ghost use Rattle.vk_model.specs.Trace.Point.{Run};
 ghost use Rattle.vk_image_bytes.specs.Numbers.{byte_count};
-ghost use Rattle.vk_order.specs.PointViews.{action_of, point_of};
+ghost use Rattle.vk_model.specs.Trace.PointViews.{action_of, point_of};
 ghost use Rattle.vk_history.specs.PointViews.{past};
 ghost use Rattle.vk_history.specs.Judged.{early_rules, first_among};
 ghost use Rattle.vk_touches.specs.Bytes.{HaveNumbers};
@@ -12,8 +12,8 @@ ghost use Rattle.vk_validate.specs.Inner.Subresources.{EndWithin, FoundInSubreso
 use std::alloc::AllocError;
 use vk_history::{History, ResourceContents};
 use vk_image_bytes::{ByteRanges, ImageBytes};
-use vk_model::SubresourceRange;
-use vk_order::{Access, NewNode, Point, flushed_seen, host_seen, prefixes};
+use vk_model::{Point, SubresourceRange};
+use vk_order::{Access, NewNode, flushed_seen, host_seen, prefixes};
 use vk_touches::{Conflicts, ResourceAccess};
 
 /// What a clear of levels and layers finds wrong.

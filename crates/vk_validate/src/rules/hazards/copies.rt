@@ -1,7 +1,7 @@
 ghost use Rattle.std.specs.Prelude.{◌≡◌, ◌≤◌, ◌+◌, ℕ, IfOk, None, length};
 ghost use Rattle.vk_model.specs.declared.command.Cmd.TheVariants as cmd;
 ghost use Rattle.vk_model.specs.Trace.Point.{Run};
-ghost use Rattle.vk_order.specs.PointViews.{action_of, point_of};
+ghost use Rattle.vk_model.specs.Trace.PointViews.{action_of, point_of};
 ghost use Rattle.vk_history.specs.PointViews.{past};
 ghost use Rattle.vk_history.specs.Judged.{early_rules, first_among};
 ghost use Rattle.vk_touches.specs.Bytes.{HaveNumbers};
@@ -10,8 +10,8 @@ ghost use Rattle.vk_validate.specs.Inner.Copies.{IsCopyBy};
 
 use std::alloc::AllocError;
 use vk_history::{History, ResourceContents};
-use vk_model::{BufferCopy, BufferImageCopy, ImageCopy};
-use vk_order::{Access, NewNode, Point, flushed_seen, host_seen, prefixes};
+use vk_model::{BufferCopy, BufferImageCopy, ImageCopy, Point};
+use vk_order::{Access, NewNode, flushed_seen, host_seen, prefixes};
 use vk_touches::{Conflicts, ResourceAccess};
 
 /// What a copy between buffers finds wrong.

@@ -3,7 +3,7 @@ use Rattle.vk_model.specs.declared.command.Cmd.{Cmd}
 use Rattle.vk_model.specs.Run.Pieces.{pieces}
 use Rattle.vk_model.specs.Trace.Point.{Action, Run}
 use Rattle.vk_model.proofs.Lists.Truths.{clash}
-use Rattle.vk_order.specs.PointViews.{point_of}
+use Rattle.vk_model.specs.Trace.PointViews.{point_of}
 use Rattle.vk_offers.specs.IsOffers.{is_run_in_pieces}
 use Rattle.vk_resources.specs.Done.{CommandReady}
 use Rattle.vk_device.specs.Led.{AreWorks}

@@ -4,7 +4,7 @@ use Rattle.std.proofs.lemmas.Option.{slice_get_within}
 use Rattle.vk_model.specs.Sync.Node.{Node, Act}
 use Rattle.vk_model.specs.World.Bytes.{in_buffer}
 use Rattle.vk_order.specs.declared.acts.Row.{Row}
-use Rattle.vk_order.specs.PointViews.{act_of}
+use Rattle.vk_order.specs.NodeViews.{act_of}
 use Rattle.vk_facts.specs.Inner.Pairs.{IsAlike}
 use Rattle.vk_facts.proofs.RowNodes.{of_node, one_more}
 use Rattle.vk_facts.proofs.past.Past.alike_until.Goals as goal

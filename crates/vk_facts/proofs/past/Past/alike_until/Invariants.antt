@@ -2,7 +2,7 @@ use Rattle.std.proofs.Common.{◌≡◌, ℕ, ◌<◌, ◌≤◌, Some}
 use Rattle.std.specs.Prelude.{slice_get}
 use Rattle.vk_model.specs.World.Bytes.{in_buffer}
 use Rattle.vk_order.specs.declared.acts.Row.{Row}
-use Rattle.vk_order.specs.PointViews.{act_of}
+use Rattle.vk_order.specs.NodeViews.{act_of}
 use Rattle.vk_facts.specs.Inner.Pairs.{IsAlike}
 use Rattle.vk_facts.proofs.past.Past.alike_until.Given as goal
 

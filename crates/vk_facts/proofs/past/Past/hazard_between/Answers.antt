@@ -1,7 +1,7 @@
 use Rattle.std.proofs.Common.{◌≡◌, ◌&&◌, List, ◌<◌, false, sym, ap, ◌∙◌, subst, arith}
 use Rattle.vk_model.specs.Sync.Node.{Node}
 use Rattle.vk_model.specs.Sync.Edge.{is_host}
-use Rattle.vk_order.specs.PointViews.{act_of}
+use Rattle.vk_order.specs.NodeViews.{act_of}
 use Rattle.vk_facts.specs.declared.areas.Area.{Area}
 use Rattle.vk_facts.specs.Areas.{AreAreas}
 use Rattle.vk_facts.specs.Hazards.{earlier_bytes}

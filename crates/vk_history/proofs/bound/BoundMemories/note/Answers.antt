@@ -1,6 +1,6 @@
 use Rattle.std.proofs.Common.{ap}
 use Rattle.std.proofs.lemmas.Result.{on_ok_weaker}
-use Rattle.vk_order.specs.PointViews.{point_of, action_of}
+use Rattle.vk_model.specs.Trace.PointViews.{point_of, action_of}
 use Rattle.vk_history.proofs.Making.JudgedIds.{no_host}
 use Rattle.vk_history.proofs.Living.Bound.{host_bound, quiet_bound}
 use Rattle.vk_history.proofs.bound.BoundMemories.note.Goals as goal

@@ -8,7 +8,7 @@ use Rattle.vk_order.proofs.PlaceLemmas.{apart_from}
 use Rattle.vk_order.specs.declared.frontier.Frontier.{Frontier}
 use Rattle.vk_order.specs.declared.new_node.NewNode.{NewNode}
 use Rattle.vk_order.specs.Frontiers.{IsFrontier, IsNewNode}
-use Rattle.vk_order.specs.PointViews.{point_of}
+use Rattle.vk_model.specs.Trace.PointViews.{point_of}
 use Rattle.vk_touches.specs.declared.touches.Spot.{Spot}
 use Rattle.vk_ids.specs.Ids.{value_of}
 use Rattle.vk_touches.specs.Touched.{next_spot, next_node, act_next, touched}

@@ -1,5 +1,5 @@
 use Rattle.std.proofs.Common.{◌∙◌, sym}
-use Rattle.vk_order.specs.PointViews.{point_of}
+use Rattle.vk_model.specs.Trace.PointViews.{point_of}
 use Rattle.vk_history.specs.PointViews.{past}
 use Rattle.vk_history.proofs.Making.JudgedIds.{no_host, judged_made}
 use Rattle.vk_history.proofs.history.History.made_for.Goals as goal

@@ -1,6 +1,6 @@
 use Rattle.std.proofs.Common.{refl, arith}
 use Rattle.vk_model.specs.Rules.Table.{fault}
-use Rattle.vk_history.specs.Supported.{is_supported}
+use Rattle.vk_model.specs.Trace.Supported.{is_supported}
 use Rattle.vk_history.specs.PointViews.{past}
 use Rattle.vk_history.proofs.history.History.new.Goals as goal
 

@@ -1,4 +1,4 @@
-use Rattle.vk_order.specs.PointViews.{point_of}
+use Rattle.vk_model.specs.Trace.PointViews.{point_of}
 use Rattle.vk_model.specs.World.Effect.{world}
 use Rattle.vk_touches.proofs.PartChanges.{on_three}
 use Rattle.vk_history.proofs.Transitions.Elements.{point_kept}

@@ -1,6 +1,6 @@
 use Rattle.std.proofs.Common.{ap}
 use Rattle.std.proofs.lemmas.Result.{on_ok_weaker}
-use Rattle.vk_order.specs.PointViews.{point_of, action_of}
+use Rattle.vk_model.specs.Trace.PointViews.{point_of, action_of}
 use Rattle.vk_history.proofs.Making.JudgedIds.{no_host}
 use Rattle.vk_history.proofs.Living.Mappings.{host_mapped, quiet_mapped}
 use Rattle.vk_history.proofs.mappings.Mappings.note.Goals as goal

@@ -1,5 +1,5 @@
 use Rattle.std.proofs.Common.{ap}
-use Rattle.vk_order.specs.PointViews.{point_of, action_of}
+use Rattle.vk_model.specs.Trace.PointViews.{point_of, action_of}
 use Rattle.vk_history.proofs.Making.JudgedIds.{no_host}
 use Rattle.vk_history.proofs.Living.Counting.{on_both}
 use Rattle.vk_history.proofs.Living.Occupants.{host_occupied, quiet_occupied}

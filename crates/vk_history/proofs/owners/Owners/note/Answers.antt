@@ -1,8 +1,8 @@
 use Rattle.std.proofs.Common.{refl, sym, subst}
 use Rattle.vk_model.specs.Sync.Node.{acts, nodes, with_acts}
 use Rattle.vk_model.specs.World.Effect.{world, after_action}
-use Rattle.vk_order.specs.PointViews.{action_of, point_of}
-use Rattle.vk_order.specs.declared.point.Action.{Action}
+use Rattle.vk_model.specs.Trace.PointViews.{action_of, point_of}
+use Rattle.vk_model.specs.declared.point.Action.{Action}
 use Rattle.vk_history.specs.Owners.{AreOwned}
 use Rattle.vk_history.proofs.Owning.{host_comes, wait_comes, signal_comes}
 use Rattle.vk_history.proofs.owners.Owners.note.Goals as goal

@@ -1,6 +1,6 @@
 use Rattle.std.proofs.Common.{ap}
 use Rattle.std.proofs.lemmas.Result.{on_ok_weaker}
-use Rattle.vk_order.specs.PointViews.{point_of, action_of}
+use Rattle.vk_model.specs.Trace.PointViews.{point_of, action_of}
 use Rattle.vk_history.proofs.Living.Residents.{host_resides}
 use Rattle.vk_history.proofs.residents.Residents.note.Goals as goal
 

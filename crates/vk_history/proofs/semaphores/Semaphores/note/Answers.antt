@@ -1,5 +1,5 @@
 use Rattle.std.proofs.Common.{sym}
-use Rattle.vk_order.specs.PointViews.{point_of}
+use Rattle.vk_model.specs.Trace.PointViews.{point_of}
 use Rattle.vk_touches.proofs.PartChanges.{on_three}
 use Rattle.vk_history.proofs.Kept.SignalSteps.{signaled_step, unsignaled_step}
 use Rattle.vk_history.proofs.semaphores.Semaphores.note.Goals as goal

@@ -2,7 +2,7 @@ use Rattle.std.proofs.Common.{ap, sym, subst, refl, arith}
 use Rattle.vk_model.specs.Trace.Point.{Action, host_of}
 use Rattle.vk_model.specs.Sync.Complete.{commands_of}
 use Rattle.vk_model.specs.Sync.Node.{nodes, acts, with_acts}
-use Rattle.vk_order.specs.PointViews.{point_of, action_of}
+use Rattle.vk_model.specs.Trace.PointViews.{point_of, action_of}
 use Rattle.vk_history.specs.declared.last_uses.LastUses.{LastUses}
 use Rattle.vk_history.specs.Uses.{AreLast, uses_in}
 use Rattle.vk_history.proofs.Using.Lasts.{quiet_comes}

@@ -3,7 +3,7 @@ use Rattle.std.specs.Prelude.{Contains}
 use Rattle.vk_model.specs.Sync.Node.{Node, nodes}
 use Rattle.vk_order.specs.Bytes.{byte_of}
 use Rattle.vk_order.specs.Wide.{access_of}
-use Rattle.vk_order.specs.PointViews.{node_of}
+use Rattle.vk_order.specs.NodeViews.{node_of}
 use Rattle.vk_facts.specs.Hazards.{node_at}
 use Rattle.vk_facts.proofs.RowNodes.{row_count, same_row}
 use Rattle.vk_links.specs.Links.{is_available_at, shows_host}

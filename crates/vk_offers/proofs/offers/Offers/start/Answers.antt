@@ -2,7 +2,7 @@ use Rattle.std.proofs.Common.{List, ap, sym, ◌∙◌, subst, refl, map, length
 use Rattle.std.proofs.lemmas.Result.{on_ok_weaker}
 use Rattle.std.proofs.lemmas.List.{map-append}
 use Rattle.vk_model.specs.Sync.Node.{Node, Runs, nodes}
-use Rattle.vk_order.specs.PointViews.{point_of}
+use Rattle.vk_model.specs.Trace.PointViews.{point_of}
 use Rattle.vk_order.specs.Frontiers.{IsFrontier}
 use Rattle.vk_offers.proofs.Growing.{with_next}
 use Rattle.vk_offers.proofs.Steps.{start_comes, begun, counts_of}

@@ -1,6 +1,6 @@
 use Rattle.std.proofs.Common.{◌≡◌, List, take}
 use Rattle.vk_model.specs.Sync.Node.{Node}
-use Rattle.vk_order.specs.PointViews.{nodes_after}
+use Rattle.vk_order.specs.NodeViews.{nodes_after}
 use Rattle.vk_order.specs.Inner.Tallies.{lines_of, CanFollow, AreFronts}
 use Rattle.vk_order.specs.Frontiers.{IsFrontier}
 use Rattle.vk_order.proofs.frontier.Frontier.add_all.Given as goal

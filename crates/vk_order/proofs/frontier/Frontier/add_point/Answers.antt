@@ -2,7 +2,7 @@ use Rattle.std.proofs.Common.{List, subst}
 use Rattle.vk_model.specs.Sync.Node.{Node}
 use Rattle.vk_order.specs.declared.acts.Row.{Row}
 use Rattle.vk_order.specs.declared.fronts.Front.{Front}
-use Rattle.vk_order.specs.PointViews.{nodes_after}
+use Rattle.vk_order.specs.NodeViews.{nodes_after}
 use Rattle.vk_order.specs.Inner.Tallies.{lines_of, CanFollow, AreFronts}
 use Rattle.vk_order.specs.Frontiers.{IsFrontier}
 use Rattle.vk_order.proofs.PointLemmas.{can_follow}

@@ -1,7 +1,8 @@
 use Rattle.std.proofs.Common.{◌≡◌, ◌∷◌, [], List, sym, subst}
 use Rattle.vk_model.specs.Sync.Node.{Act, acts, with_acts}
 use Rattle.vk_order.specs.declared.acts.Row.{Row}
-use Rattle.vk_order.specs.PointViews.{act_of, action_of, point_of}
+use Rattle.vk_model.specs.Trace.PointViews.{action_of, point_of}
+use Rattle.vk_order.specs.NodeViews.{act_of}
 use Rattle.vk_order.specs.Frontiers.{IsFrontier}
 use Rattle.vk_order.proofs.PointLemmas.{one_follows}
 use Rattle.vk_order.proofs.frontier.Frontier.advance.Goals as goal

@@ -2,7 +2,7 @@ use Rattle.std.proofs.Common.{◌≡◌, ◌<◌, ℕ, List, Some, IsTrue}
 use Rattle.std.specs.Prelude.{slice_get, is_some}
 use Rattle.vk_model.specs.Sync.Node.{Node}
 use Rattle.vk_order.specs.declared.acts.Row.{Row}
-use Rattle.vk_order.specs.PointViews.{act_of}
+use Rattle.vk_order.specs.NodeViews.{act_of}
 use Rattle.vk_order.specs.Lines.{class_on}
 use Rattle.vk_order.specs.Inner.Kept.{IsLonger}
 use Rattle.vk_order.specs.Inner.Places.{index_in}

@@ -1,6 +1,6 @@
 use Rattle.std.proofs.Common.{◌∙◌, List, refl, ap, sym}
 use Rattle.vk_order.specs.declared.tallies.LineTally.{LineTally}
-use Rattle.vk_order.specs.PointViews.{act_of}
+use Rattle.vk_order.specs.NodeViews.{act_of}
 use Rattle.vk_order.specs.Lines.{class_on}
 use Rattle.vk_order.specs.Inner.Places.{index_in}
 use Rattle.vk_order.specs.Inner.Tallies.{lines_of}

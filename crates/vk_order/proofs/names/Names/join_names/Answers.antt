@@ -2,7 +2,7 @@ use Rattle.std.proofs.Common.{◌≡◌, Bool, ◌||◌, Option, refl, sym, subs
 use Rattle.vk_model.specs.Sync.Node.{Node}
 use Rattle.vk_model.specs.Sync.Edge.{pairs, by_semaphore}
 use Rattle.vk_order.specs.declared.fronts.Front.{Front}
-use Rattle.vk_order.specs.PointViews.{act_of, node_of}
+use Rattle.vk_order.specs.NodeViews.{act_of, node_of}
 use Rattle.vk_order.specs.Prefixes.{submits}
 use Rattle.vk_order.specs.Inner.Links.{by_name}
 use Rattle.vk_order.specs.Inner.Fronts.{IsNamed}

@@ -2,9 +2,9 @@ use Rattle.std.proofs.Common.{◌≡◌, Bool, ◌||◌, [], refl, ap, sym, ◌�
 use Rattle.vk_model.specs.declared.entry.Entry.{Entry}
 use Rattle.vk_model.specs.declared.entry.SemaphoreSubmit.{SemaphoreSubmit}
 use Rattle.vk_model.specs.Sync.Edge.{by_semaphore, waited_by}
-use Rattle.vk_order.specs.declared.point.Act.{Act}
-use Rattle.vk_order.specs.declared.point.Act.TheVariants as act
-use Rattle.vk_order.specs.PointViews.{act_of}
+use Rattle.vk_order.specs.declared.act.Act.{Act}
+use Rattle.vk_order.specs.declared.act.Act.TheVariants as act
+use Rattle.vk_order.specs.NodeViews.{act_of}
 use Rattle.vk_order.specs.Inner.Names.{is_awaited_for}
 use Rattle.vk_order.proofs.FrontLemmas.{front_same}
 use Rattle.vk_order.proofs.WaitLemmas.{one_wait, no_wait}

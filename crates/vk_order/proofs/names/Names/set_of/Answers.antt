@@ -1,7 +1,7 @@
 use Rattle.std.proofs.Common.{Option, ap, sym, ◌∙◌, subst}
 use Rattle.vk_model.specs.Sync.Edge.{pairs}
 use Rattle.vk_order.specs.declared.fronts.Front.{Front}
-use Rattle.vk_order.specs.PointViews.{act_of}
+use Rattle.vk_order.specs.NodeViews.{act_of}
 use Rattle.vk_order.specs.Inner.Fronts.{IsNamed}
 use Rattle.vk_order.specs.Inner.Keyed.{front_at}
 use Rattle.vk_order.specs.Inner.Names.{is_set_of}

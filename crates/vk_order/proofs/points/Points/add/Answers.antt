@@ -2,7 +2,8 @@ use Rattle.std.proofs.Common.{◌≡◌, ◌++◌, [], List, Option, Some, refl,
 use Rattle.vk_model.specs.Sync.Node.{Node}
 use Rattle.vk_order.specs.declared.acts.Row.{Row}
 use Rattle.vk_order.specs.declared.frontier.Frontier.{Frontier}
-use Rattle.vk_order.specs.PointViews.{point_of, nodes_after}
+use Rattle.vk_model.specs.Trace.PointViews.{point_of}
+use Rattle.vk_order.specs.NodeViews.{nodes_after}
 use Rattle.vk_order.specs.Queries.{IsNew}
 use Rattle.vk_order.specs.Inner.Kept.{IsStamped}
 use Rattle.vk_order.specs.Inner.Ready.{IsOf}

@@ -5,7 +5,7 @@ use Rattle.vk_model.specs.Sync.Before.{before}
 use Rattle.vk_order.specs.declared.acts.Row.{Row}
 use Rattle.vk_order.specs.declared.clocks.Stamp.{Stamp}
 use Rattle.vk_order.specs.declared.lines.Line.{Line}
-use Rattle.vk_order.specs.PointViews.{node_of, nodes_after}
+use Rattle.vk_order.specs.NodeViews.{node_of, nodes_after}
 use Rattle.vk_order.specs.Inner.Kept.{IsStamped}
 use Rattle.vk_order.proofs.BeforeLemmas.{node_row}
 use Rattle.vk_order.proofs.points.Points.before.Goals as goal

@@ -4,7 +4,7 @@ use Rattle.std.proofs.lemmas.Option.{slice_get_within}
 use Rattle.vk_model.specs.Sync.Node.{Node}
 use Rattle.vk_model.specs.Sync.Before.{before}
 use Rattle.vk_order.specs.declared.acts.Row.{Row}
-use Rattle.vk_order.specs.PointViews.{node_of, nodes_after}
+use Rattle.vk_order.specs.NodeViews.{node_of, nodes_after}
 use Rattle.vk_order.specs.Inner.Availability.{IsUntil}
 use Rattle.vk_order.proofs.NamedLemmas.{node_there}
 use Rattle.vk_order.proofs.reads.Reader.is_in_time.Goals as goal

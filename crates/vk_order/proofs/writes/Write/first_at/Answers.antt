@@ -1,5 +1,5 @@
 use Rattle.std.proofs.Common.{◌≡◌, Some, false, ap, sym, ◌∙◌}
-use Rattle.vk_order.specs.PointViews.{act_of}
+use Rattle.vk_order.specs.NodeViews.{act_of}
 use Rattle.vk_order.specs.Lines.{is_of_sets}
 use Rattle.vk_order.proofs.ClockLemmas.{line_same}
 use Rattle.vk_order.proofs.AvailabilityLemmas.{lined}

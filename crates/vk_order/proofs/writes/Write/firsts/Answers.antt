@@ -7,7 +7,7 @@ use Rattle.vk_model.specs.Sync.Node.{Node}
 use Rattle.vk_model.proofs.Lists.Members.{contains-head, only_one}
 use Rattle.vk_order.specs.declared.acts.Row.{Row}
 use Rattle.vk_order.specs.declared.writes.First.{First}
-use Rattle.vk_order.specs.PointViews.{act_of, node_of, nodes_after}
+use Rattle.vk_order.specs.NodeViews.{act_of, node_of, nodes_after}
 use Rattle.vk_order.specs.Lines.{line_of}
 use Rattle.vk_order.specs.Inner.Availability.{makes_write_available, is_marked, is_set_element, HasSets}
 use Rattle.vk_order.proofs.writes.Write.firsts.Goals.{in-Some+in_ok-push, in_default}

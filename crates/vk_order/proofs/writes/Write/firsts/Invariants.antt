@@ -2,7 +2,7 @@ use Rattle.std.proofs.Common.{◌≡◌, ◌<◌, ◌≤◌, ℕ, [], Some, fals
 use Rattle.std.specs.Prelude.{slice_get, Contains}
 use Rattle.vk_order.specs.declared.acts.Row.{Row}
 use Rattle.vk_order.specs.declared.writes.First.{First}
-use Rattle.vk_order.specs.PointViews.{act_of, node_of, nodes_after}
+use Rattle.vk_order.specs.NodeViews.{act_of, node_of, nodes_after}
 use Rattle.vk_order.specs.Lines.{line_of}
 use Rattle.vk_order.specs.Inner.Availability.{makes_write_available, is_marked, is_set_element, HasSets}
 use Rattle.vk_order.proofs.writes.Write.firsts.Given as goal

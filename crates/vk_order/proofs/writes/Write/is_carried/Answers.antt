@@ -4,7 +4,7 @@ use Rattle.std.proofs.lemmas.Bool.{cases_lt}
 use Rattle.std.proofs.lemmas.List.Elements.{Contains-get_or}
 use Rattle.std.proofs.lemmas.Option.{slice_get_read, slice_get-get_or}
 use Rattle.vk_order.specs.declared.acts.Row.{Row}
-use Rattle.vk_order.specs.PointViews.{act_of, node_of}
+use Rattle.vk_order.specs.NodeViews.{act_of, node_of}
 use Rattle.vk_order.specs.Edges.{unsignaled}
 use Rattle.vk_order.specs.Inner.Availability.{makes_write_available, is_set_element}
 use Rattle.vk_order.proofs.AvailabilityLemmas.{some_carried, none_carried, not_after_sets}

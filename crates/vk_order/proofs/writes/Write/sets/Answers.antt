@@ -6,7 +6,7 @@ use Rattle.std.proofs.lemmas.Option.{slice_get_read, slice_get_within}
 use Rattle.vk_model.proofs.Lists.Members.{contains-head, only_one}
 use Rattle.vk_model.proofs.Lists.Truths.{clash}
 use Rattle.vk_order.specs.declared.acts.Row.{Row}
-use Rattle.vk_order.specs.PointViews.{act_of, node_of}
+use Rattle.vk_order.specs.NodeViews.{act_of, node_of}
 use Rattle.vk_order.specs.Inner.Availability.{makes_write_available, is_set_element}
 use Rattle.vk_order.proofs.writes.Write.sets.Goals.{then-is_made_available_by_set+in_ok-push, else-is_made_available_by_set}
 use Rattle.vk_order.proofs.writes.Write.sets.Goals as goal

@@ -1,7 +1,7 @@
 use Rattle.std.proofs.Common.{◌≡◌, ◌<◌, ◌&&◌, ℕ, Some, IsTrue}
 use Rattle.std.specs.Prelude.{slice_get, Contains}
 use Rattle.vk_order.specs.declared.acts.Row.{Row}
-use Rattle.vk_order.specs.PointViews.{act_of, node_of}
+use Rattle.vk_order.specs.NodeViews.{act_of, node_of}
 use Rattle.vk_order.specs.Inner.Availability.{makes_write_available, is_set_element}
 use Rattle.vk_order.proofs.writes.Write.sets.Given as goal
 

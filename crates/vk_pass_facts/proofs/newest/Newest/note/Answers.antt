@@ -1,6 +1,6 @@
 use Rattle.std.proofs.Common.{sym, ◌∙◌}
 use Rattle.vk_model.specs.Sync.Node.{acts}
-use Rattle.vk_order.specs.PointViews.{action_of, point_of}
+use Rattle.vk_model.specs.Trace.PointViews.{action_of, point_of}
 use Rattle.vk_pass_facts.proofs.NewestLemmas.{kept_command}
 use Rattle.vk_pass_facts.proofs.newest.Newest.note.Goals as goal
 

@@ -2,7 +2,7 @@ use Rattle.std.proofs.Common.{◌≡◌, List, take, refl, ap, sym, ◌∙◌, a
 use Rattle.std.specs.List.{list_any}
 use Rattle.std.proofs.lemmas.List.{take_all}
 use Rattle.vk_order.specs.declared.acts.Row.{Row}
-use Rattle.vk_order.specs.PointViews.{node_of}
+use Rattle.vk_order.specs.NodeViews.{node_of}
 use Rattle.vk_pass_facts.specs.Inner.Uses.{uses_at}
 use Rattle.vk_pass_facts.proofs.ListSteps.{test_more}
 use Rattle.vk_pass_facts.proofs.TimelineLemmas.{no_use, no_row, nodes_with}

@@ -1,6 +1,6 @@
 use Rattle.std.proofs.Common.{◌≡◌, false, take}
 use Rattle.std.specs.List.{list_any}
-use Rattle.vk_order.specs.PointViews.{node_of}
+use Rattle.vk_order.specs.NodeViews.{node_of}
 use Rattle.vk_pass_facts.specs.Inner.Uses.{uses_at}
 use Rattle.vk_pass_facts.proofs.timeline.Timeline.has_no_use.Given as goal
 

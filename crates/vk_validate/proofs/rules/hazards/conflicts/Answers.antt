@@ -1,6 +1,6 @@
 use Rattle.std.proofs.Common.{subst, sym, refl, ◌≡◌, true}
 use Rattle.vk_model.specs.Trace.Point.{Action}
-use Rattle.vk_order.specs.PointViews.{point_of}
+use Rattle.vk_model.specs.Trace.PointViews.{point_of}
 use Rattle.vk_history.specs.PointViews.{past}
 use Rattle.vk_validate.proofs.Points.Calm.{calm}
 use Rattle.vk_validate.proofs.Judging.CalmConflicts.{quiet_conflicts, calm_conflicts}

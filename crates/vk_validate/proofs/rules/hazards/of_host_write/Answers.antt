@@ -5,7 +5,7 @@ use Rattle.vk_model.specs.Sync.Node.{nodes}
 use Rattle.vk_model.specs.Sync.Edge.{is_element}
 use Rattle.vk_model.proofs.Lists.Members.{contains-head}
 use Rattle.vk_model.proofs.Lists.Truths.{clash}
-use Rattle.vk_order.specs.PointViews.{point_of}
+use Rattle.vk_model.specs.Trace.PointViews.{point_of}
 use Rattle.vk_order.proofs.PlaceLemmas.{apart_from}
 use Rattle.vk_history.specs.PointViews.{past}
 use Rattle.vk_touches.specs.Conflicts.{FoundIn, FoundAt, MissesWrite, HasEarlyCommand}

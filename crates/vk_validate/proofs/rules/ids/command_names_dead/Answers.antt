@@ -1,6 +1,6 @@
 use Rattle.std.proofs.Common.{◌∙◌, sym}
 use Rattle.vk_model.specs.Rules.Ids.{is_dead, judged_in}
-use Rattle.vk_order.specs.PointViews.{point_of}
+use Rattle.vk_model.specs.Trace.PointViews.{point_of}
 use Rattle.vk_history.specs.PointViews.{past}
 use Rattle.vk_validate.proofs.Judging.Named.{elements_dead}
 use Rattle.vk_validate.proofs.rules.ids.command_names_dead.Goals as goal

@@ -1,7 +1,7 @@
 use Rattle.std.proofs.Common.{◌∙◌, ◌||◌, sym, ap}
 use Rattle.vk_model.specs.declared.entry.SemaphoreValue.{SemaphoreValue}
 use Rattle.vk_model.specs.Rules.Ids.{is_dead, judged_in, is_semaphore, is_defrag, is_resource}
-use Rattle.vk_order.specs.PointViews.{point_of}
+use Rattle.vk_model.specs.Trace.PointViews.{point_of}
 use Rattle.vk_history.specs.PointViews.{past}
 use Rattle.vk_validate.proofs.Judging.Named.{each_dead, all_dead}
 use Rattle.vk_validate.proofs.rules.ids.entry_names_dead.Goals as goal

@@ -1,6 +1,6 @@
 use Rattle.std.proofs.Common.{sym, subst}
-use Rattle.vk_order.specs.PointViews.{point_of, action_of}
-use Rattle.vk_order.specs.declared.point.Action.{Action as Acts}
+use Rattle.vk_model.specs.Trace.PointViews.{point_of, action_of}
+use Rattle.vk_model.specs.declared.point.Action.{Action as Acts}
 use Rattle.vk_history.specs.PointViews.{past}
 use Rattle.vk_validate.proofs.Judging.Pairs.{no_owner_pair, IsNoBarrier}
 use Rattle.vk_validate.proofs.rules.owners.breaks_owner_pair.Goals as goal

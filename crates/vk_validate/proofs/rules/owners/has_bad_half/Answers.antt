@@ -1,5 +1,5 @@
 use Rattle.std.proofs.Common.{sym, ◌∙◌}
-use Rattle.vk_order.specs.PointViews.{point_of}
+use Rattle.vk_model.specs.Trace.PointViews.{point_of}
 use Rattle.vk_history.specs.PointViews.{past}
 use Rattle.vk_validate.proofs.Judging.Pairs.{no_owner_pair, run_same}
 use Rattle.vk_validate.proofs.rules.owners.has_bad_half.Goals as goal

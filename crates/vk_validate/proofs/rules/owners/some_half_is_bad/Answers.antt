@@ -2,7 +2,7 @@ use Rattle.std.proofs.Common.{◌≡◌, ◌∷◌, ◌+◌, List, Bool, ap, sym
 use Rattle.std.proofs.lemmas.List.{drop_all, drop_more}
 use Rattle.vk_model.specs.declared.command.Element.{Element}
 use Rattle.vk_model.specs.Rules.Owners.{bad_pair}
-use Rattle.vk_order.specs.PointViews.{point_of}
+use Rattle.vk_model.specs.Trace.PointViews.{point_of}
 use Rattle.vk_history.specs.PointViews.{past}
 use Rattle.vk_validate.specs.Inner.Owners.{Judges}
 use Rattle.vk_validate.proofs.Judging.Elements.{Going, begins, broken, goes_on, ends}

@@ -2,7 +2,7 @@ use Rattle.std.proofs.Common.{ap, sym, ◌∙◌, subst}
 use Rattle.vk_model.specs.Sync.Node.{Act, nodes}
 use Rattle.vk_model.specs.Sync.Edge.{is_element}
 use Rattle.vk_order.specs.Frontiers.{IsNewNode}
-use Rattle.vk_order.specs.PointViews.{point_of}
+use Rattle.vk_model.specs.Trace.PointViews.{point_of}
 use Rattle.vk_order.proofs.PlaceLemmas.{apart_from}
 use Rattle.vk_history.specs.PointViews.{past}
 use Rattle.vk_touches.specs.Touched.{next_node, act_next}

@@ -1,5 +1,5 @@
 use Rattle.std.proofs.Common.{refl, inr}
-use Rattle.vk_order.specs.PointViews.{point_of}
+use Rattle.vk_model.specs.Trace.PointViews.{point_of}
 use Rattle.vk_history.specs.PointViews.{past}
 use Rattle.vk_validate.specs.Inner.Transitions.{node_alone}
 use Rattle.vk_validate.proofs.rules.hazards.barriers.finds_early.Goals as goal

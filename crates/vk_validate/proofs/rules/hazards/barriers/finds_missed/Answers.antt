@@ -1,6 +1,6 @@
 use Rattle.std.proofs.Common.{◌≡◌, ◌∙◌, ℕ, Option, Some, None, ap, inr, refl, subst, sym}
 use Rattle.vk_model.specs.World.Ownership.{named_by}
-use Rattle.vk_order.specs.PointViews.{point_of}
+use Rattle.vk_model.specs.Trace.PointViews.{point_of}
 use Rattle.vk_history.specs.declared.element_parts.ElementPart.{ElementPart}
 use Rattle.vk_history.specs.Contents.{AreContentsOf}
 use Rattle.vk_history.specs.Known.{IsKnownAt}

@@ -1,6 +1,6 @@
 use Rattle.std.proofs.Common.{Bool, true, false, subst}
 use Rattle.vk_model.specs.declared.command.Element.{Element}
-use Rattle.vk_order.specs.PointViews.{point_of}
+use Rattle.vk_model.specs.Trace.PointViews.{point_of}
 use Rattle.vk_history.specs.PointViews.{past}
 use Rattle.vk_validate.specs.Inner.Transitions.{FindsEarly}
 use Rattle.vk_validate.proofs.Judging.Among.{none_next, some_here, none_at_all}

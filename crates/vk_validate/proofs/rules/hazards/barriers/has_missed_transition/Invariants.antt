@@ -1,5 +1,5 @@
 use Rattle.std.proofs.Common.{false, take}
-use Rattle.vk_order.specs.PointViews.{point_of}
+use Rattle.vk_model.specs.Trace.PointViews.{point_of}
 use Rattle.vk_touches.specs.Conflicts.{FoundAmong}
 use Rattle.vk_history.specs.PointViews.{past}
 use Rattle.vk_validate.specs.Inner.Transitions.{FindsMissed}

@@ -1,4 +1,4 @@
-use Rattle.vk_order.specs.PointViews.{point_of}
+use Rattle.vk_model.specs.Trace.PointViews.{point_of}
 use Rattle.vk_history.specs.PointViews.{past}
 use Rattle.vk_validate.proofs.Judging.Transitioning.{barrier_conflicts}
 use Rattle.vk_validate.proofs.rules.hazards.barriers.of_barrier.Goals as goal

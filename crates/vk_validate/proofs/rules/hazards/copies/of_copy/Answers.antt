@@ -1,6 +1,6 @@
 use Rattle.std.proofs.Common.{refl}
 use Rattle.vk_model.specs.declared.command.Cmd.TheVariants as cmd
-use Rattle.vk_order.specs.PointViews.{point_of}
+use Rattle.vk_model.specs.Trace.PointViews.{point_of}
 use Rattle.vk_history.specs.PointViews.{past}
 use Rattle.vk_history.proofs.Kept.CopySteps.{buffers_copied}
 use Rattle.vk_validate.proofs.Judging.Copying.{copy_by}

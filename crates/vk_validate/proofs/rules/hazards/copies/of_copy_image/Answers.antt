@@ -1,7 +1,7 @@
 use Rattle.std.proofs.Common.{List, refl, subst, sym}
 use Rattle.vk_model.specs.declared.command.BufferCopy.{BufferCopy}
 use Rattle.vk_model.specs.declared.command.Cmd.TheVariants as cmd
-use Rattle.vk_order.specs.PointViews.{point_of}
+use Rattle.vk_model.specs.Trace.PointViews.{point_of}
 use Rattle.vk_history.specs.PointViews.{past}
 use Rattle.vk_history.proofs.Kept.ImageCopies.{copied_image}
 use Rattle.vk_validate.specs.Inner.Copies.{IsCopyBy}

@@ -3,7 +3,7 @@ use Rattle.vk_model.specs.Trace.Point.{Action}
 use Rattle.vk_model.specs.Sync.Node.{nodes}
 use Rattle.vk_model.specs.Sync.Edge.{is_element}
 use Rattle.vk_model.proofs.Lists.Truths.{clash}
-use Rattle.vk_order.specs.PointViews.{point_of}
+use Rattle.vk_model.specs.Trace.PointViews.{point_of}
 use Rattle.vk_order.proofs.PlaceLemmas.{apart_from}
 use Rattle.vk_history.specs.PointViews.{past}
 use Rattle.vk_touches.specs.Touched.{next_node, act_next}

@@ -1,0 +1,7 @@
+//! A trace from its bytes to the bytes of its answer: it is read, judged, replayed where it breaks no rule,
+//! and answered.
+#![tactic(auto)]
+
+mod running;
+
+pub use running::{Answer, Status, answer_of, run};
