@@ -6,3 +6,5 @@ pub mod Ends
 pub mod NextEntry
 pub mod Unended
 pub mod Lives
+pub mod Passing
+pub mod StayOff

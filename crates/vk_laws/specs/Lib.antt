@@ -19,3 +19,4 @@ pub mod PickedRuns
 pub mod DirectRuns
 pub mod Lifetimes
 pub mod Written
+pub mod OpenPasses

@@ -6,6 +6,7 @@ mod cached_runs;
 mod direct_runs;
 mod lifetimes;
 mod machine;
+mod open_passes;
 mod picked_runs;
 mod reader;
 mod tasks;
@@ -26,6 +27,7 @@ pub use lifetimes::{
 pub use machine::{
     every_order, pieces_suffice, premises_can_be_met, runs_carry_over, whole_commands,
 };
+pub use open_passes::pieces_stay_off_passes;
 pub use picked_runs::picks_are_runs;
 pub use reader::{Cache, Copied, Memory, is_done};
 pub use tasks::{

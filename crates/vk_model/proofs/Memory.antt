@@ -7,3 +7,4 @@ pub mod LinearBlocks
 pub mod Giving
 pub mod Pools
 pub mod Ranks
+pub mod PassRanks

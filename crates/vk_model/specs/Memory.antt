@@ -8,3 +8,4 @@ pub mod MoveTargets
 pub mod Pools
 pub mod Allocations
 pub mod PlaceLaws
+pub mod PassRanks

@@ -35,8 +35,9 @@ pub use laws::{
 pub use layout::{Format, Layout};
 pub use masks::{Accesses, Stages, Usage};
 pub use places::{
-    blocks_give, linear_frees, linear_stays, linear_takes, pool_stays, putting_is_sound,
-    ranks_fall, subresources_hold, taking_away_is_sound, texels_apart, texels_inside,
+    blocks_give, linear_frees, linear_stays, linear_takes, passes_lower_ranks, pool_stays,
+    putting_is_sound, ranks_fall, subresources_hold, taking_away_is_sound, texels_apart,
+    texels_inside,
 };
 pub use point::{Action, Point};
 pub use resource::{

@@ -1,4 +1,5 @@
 //! Laws of places, each the contract of a function that does nothing.
+ghost use Rattle.vk_model.specs.Memory.PassRanks.{PassesLowerRanks};
 ghost use Rattle.vk_model.specs.Memory.PlaceLaws.{TexelsApart, TexelsInside, SubresourcesHold, PuttingIsSound, TakingAwayIsSound, LinearTakes, LinearFrees, LinearStays, BlocksGive, PoolStays, RanksFall};
 
 /// No two texels of an image share a byte.
@@ -55,4 +56,10 @@ pub fn pool_stays()
 /// The place that a resource moves to has a lower rank than its own.
 pub fn ranks_fall()
     ensures { RanksFall }
+{}
+
+/// A pass that ends lowers the sum of the ranks of its pool's resources by at least as many as it
+/// moved, so that moves come to an end.
+pub fn passes_lower_ranks()
+    ensures { PassesLowerRanks }
 {}

@@ -30,7 +30,7 @@ host_node_there past p x is = subst (λ (d : Action). Contains (with_acts p (act
 
 module _ (past : Past) (p : Point) (x : Entry) (is : p.action ≡ Host x) where
   -- where no live resource that passes a test is busy, one that passes isn't
-  not_busy : (test : ℕ → Bool) (r : ℕ) → IsAlive past r is_resource → IsTrue (test r) → (IsTrue (some_busy past p test) → ⊥) → is_busy past (nodes (p ∷ past)) (host_node past p x) r ≡ false
+  pub not_busy : (test : ℕ → Bool) (r : ℕ) → IsAlive past r is_resource → IsTrue (test r) → (IsTrue (some_busy past p test) → ⊥) → is_busy past (nodes (p ∷ past)) (host_node past p x) r ≡ false
   not_busy test r alive passes none = false_from_ne_true (is_busy past (nodes (p ∷ past)) (host_node past p x) r) (λ busy. none
       (found_new (λ n. list_any (λ r. test r && is_busy past (nodes (p ∷ past)) n r) (live_resources past)) past p (host_node past p x) (host_node_there past p x is) (omega arith)
       (member_passes (λ r. test r && is_busy past (nodes (p ∷ past)) (host_node past p x) r) (live_resources past) r (among_live past r alive)
@@ -79,7 +79,7 @@ module _ (past : Past) (p : Point) (x : Entry) (is : p.action ≡ Host x) where
     not_used : IsTrue (ends_used past p x) → ⊥
     not_used h = in_use_kept (subst (λ (d : Action). IsTrue (holds (host_of d) (ends_used past p))) (sym is) h)
 
-    no_pass : IsTrue (passes_busy past p x) → ⊥
+    pub no_pass : IsTrue (passes_busy past p x) → ⊥
     no_pass h = pass_kept (subst (λ (d : Action). IsTrue (holds (host_of d) (passes_busy past p))) (sym is) h)
 
     one_asked : (r e : ℕ) (kind : Entry → Bool) → asked_by_entry x ≡ (e, kind) ∷ [] → r ≡ e → IsAlive past r kind

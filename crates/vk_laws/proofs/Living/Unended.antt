@@ -114,48 +114,48 @@ module _ {t : List Entry} (known : Known t) (s : Stage) (did : List Task) (i : A
   abbrev past : Past
   past = s.front.past
 
-  comes : (b : Past) (q : Point) → Comes past b q → Comes (order t) b q
+  pub comes : (b : Past) (q : Point) → Comes past b q → Comes (order t) b q
   comes b q h = let g = grows known s did i in comes_within (order t) g.newer past g.whole b q h
 
-  sound : (b : Past) (q : Point) → Comes past b q → (k : Rule) → IsTrue (breaks k b q) → ⊥
+  pub sound : (b : Past) (q : Point) → Comes past b q → (k : Rule) → IsTrue (breaks k b q) → ⊥
   sound b q c k h = known.sound b q k (comes b q c, h)
 
-  new : IsNew past
+  pub new : IsNew past
   new b q h = new_ids (order t) known.sound b q (comes b q h)
 
   ordered : IsOrdered past
   ordered = ordered_past known.keeps t s i.placed
 
   -- what was made stays the same object
-  made_on : (b : Past) (q : Point) → Comes past b q → (r : ℕ) (x : Entry) → made b r ≡ Some x → made past r ≡ Some x
+  pub made_on : (b : Past) (q : Point) → Comes past b q → (r : ℕ) (x : Entry) → made b r ≡ Some x → made past r ≡ Some x
   made_on b q c r x is =
       let f = split_at past b q c in
       let whole : past ≡ (f.0 ++ q ∷ []) ++ b = f.1 ∙ sym (append_assoc f.0 (q ∷ []) b) in
       ap (λ (l : Past). made l r) whole ∙ made_up (f.0 ++ q ∷ []) b r x (subst (λ (l : Past). IsNew l) whole new) is
 
   module _ (n : Node) (c : Cmd) (k : ℕ) (cn : Contains (nodes past) n) (runs : n.act ≡ Runs c) (lt : k < length (pieces past c)) (left : is_done s.done (n.number, k) ≡ false) where
-    a : OfPoint past n
+    pub a : OfPoint past n
     a = at_point past n cn
 
-    run : a.at.action ≡ Run c
+    pub run : a.at.action ≡ Run c
     run = action_of a.at.action c (subst (λ (x : Act). Contains (acts a.at.action) x) runs a.acted)
 
-    here : Comes past a.past a.at
+    pub here : Comes past a.past a.at
     here = comes_at past n a
 
-    follows : Follows a.past a.at a.at.action × IsOrdered a.past
+    pub follows : Follows a.past a.at a.at.action × IsOrdered a.past
     follows = follows_at past a.past a.at ordered here
 
-    of_batch : IsOfBatch a.past a.at
+    pub of_batch : IsOfBatch a.past a.at
     of_batch = is_of_batch a.past a.at a.at.action (ap host_of run) follows.0
 
-    abbrev submit : Point
+    abbrev pub submit : Point
     submit = host a.at.entry (entry.Submit a.at.queue of_batch.batches)
 
-    abbrev judged : Past
+    abbrev pub judged : Past
     judged = until a.at.entry a.past
 
-    submit_comes : Comes a.past judged submit
+    pub submit_comes : Comes a.past judged submit
     submit_comes = until_there a.past follows.1 a.at.entry (entry.Submit a.at.queue of_batch.batches) of_batch.submitted
 
     -- so at a host entry after the submit its command is busy
@@ -198,7 +198,7 @@ module _ {t : List Entry} (known : Known t) (s : Stage) (did : List Task) (i : A
           let first_on = before_in_all known.keeps past b q cq n h ch first in
           clash (ran_before known s did i n h c y k cn (node_within known.keeps past b q h cq ch) runs refl first_on lt) left
 
-      never_free : ⊥
+      pub never_free : ⊥
       never_free = go (which_first past a.past b a.at q here cq)
         where
           go : Comes a.past b q ⊎ Comes b a.past a.at ⊎ ((a.past ≡ b) × (a.at ≡ q)) → ⊥
@@ -206,11 +206,11 @@ module _ {t : List Entry} (known : Known t) (s : Stage) (did : List Task) (i : A
           go (inr (inl e)) = not_older e
           go (inr (inr e)) = let no : Run c ≡ Host y = sym run ∙ ap (λ (p : Point). p.action) e.1 ∙ is in cc
 
-    submit_here : Comes past judged submit
+    pub submit_here : Comes past judged submit
     submit_here = comes_on past a.past judged a.at submit here submit_comes
 
     -- what it names was live when it was submitted
-    named_alive : (r : ℕ) (kind : Entry → Bool) → Contains (asked_by_command c) (r, kind) → IsAlive judged r kind
+    pub named_alive : (r : ℕ) (kind : Entry → Bool) → Contains (asked_by_command c) (r, kind) → IsAlive judged r kind
     named_alive r kind asked = is_alive judged r kind (batch_names_live a.past a.at (ap host_of run) (live_ids (order t) known.sound a.past a.at (comes a.past a.at here)) r kind (subst (λ (d : Action). Contains (asked_by d) (r, kind)) (sym run) asked))
 
     pub unended : (r : ℕ) (kind : Entry → Bool) → Contains (asked_by_command c) (r, kind) → ended past r ≡ false
