@@ -2,7 +2,7 @@ use Rattle.std.proofs.Common.{◌≡◌, ◌++◌, map}
 use Rattle.vk_model.specs.Sync.Node.{SetOf, event_acts}
 use Rattle.vk_order.specs.NodeViews.{act_of}
 use Rattle.vk_order.proofs.ActLemmas.{from_event}
-use Rattle.vk_order.proofs.point.acts_of_set.Given as goal
+use Rattle.vk_order.proofs.act.acts_of_set.Given as goal
 
 abbrev pub invariant-loop-k : goal.invariant-loop-k
 invariant-loop-k l = map act_of l.all.items ++ from_event (SetOf l.event) l.k l.elements ≡ event_acts (SetOf l.event) l.elements

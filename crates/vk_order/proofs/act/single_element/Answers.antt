@@ -2,7 +2,7 @@ use Rattle.std.proofs.Common.{◌≡◌, ◌∷◌, [], length, ap, sym, ◌∙�
 use Rattle.vk_model.specs.declared.command.Element.{Element}
 use Rattle.vk_model.specs.Sync.Node.{Depends, Barrier}
 use Rattle.vk_order.proofs.ActLemmas.{single_barrier}
-use Rattle.vk_order.proofs.point.single_element.Goals as goal
+use Rattle.vk_order.proofs.act.single_element.Goals as goal
 
 pub returns : goal.returns
 returns c =
