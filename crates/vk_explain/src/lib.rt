@@ -4,6 +4,7 @@
 mod explaining;
 mod forms;
 mod json;
+mod listing;
 mod mending;
 mod mistakes;
 mod places;

@@ -1,9 +1,10 @@
-ghost use Rattle.std.specs.Prelude.{◌≡◌, ◌≤◌, IfOk, Some, length};
+ghost use Rattle.std.specs.Prelude.{◌≡◌, IfOk, Some};
 ghost use Rattle.vk_model.specs.Rules.Table.{first_fault};
 ghost use Rattle.vk_explain.specs.Inner.Repaired.{IsSought};
 
+use crate::listing::{Listed, in_listed_order};
 use std::alloc::{AllocError, Global};
-use vk_edits::{Change, Edit, InBatch, Member, moved};
+use vk_edits::{Change, Edit, Member};
 use vk_model::{At, Entry, Rule};
 use vk_notes::summary_of;
 use vk_repairs::{Repair, repair};
@@ -45,7 +46,7 @@ pub struct RepairWords {
     pub weaker: bool,
     /// Whether it has data that stand in for what the given trace lacks.
     pub stands_in: bool,
-    /// Each edit, with what it puts into the changed trace or takes out of the given one.
+    /// Each edit, in an order in which they come right one after another.
     pub edits: Vec<EditWords>,
 }
 
@@ -125,9 +126,10 @@ fn lines_of(alloc: Global, words: &RepairWords) -> Result<String, AllocError> {
 pub fn words_of(alloc: Global, trace: &[Entry], found: &Repair) -> Result<RepairWords, AllocError> {
     let then = next_words(alloc, found.next)?;
     let mut edits = Vec::new(alloc);
-    for number in 0..found.edits.len() {
-        let point = edit_words(alloc, trace, found, number)?;
-        let value = value_of(alloc, found.edits.get(number))?;
+    for one in &in_listed_order(alloc, found.edits.as_slice())? {
+        let edit = found.edits.get(one.number);
+        let point = edit_words(alloc, trace, found, *one)?;
+        let value = value_of(alloc, edit)?;
         edits.push(EditWords { point, value })?;
     }
     Ok(RepairWords {
@@ -157,24 +159,16 @@ fn edit_words(
     alloc: Global,
     trace: &[Entry],
     found: &Repair,
-    number: usize,
-) -> Result<String, AllocError>
-    requires { number ≤ length found.now.edits.items }
-{
-    let edits = found.edits.as_slice();
-    let earlier = &edits[..number];
-    match edits.get(number) {
-        Some(Edit::Entry { change, number, .. }) => {
-            let at = moved(earlier, At::Entry(*number));
-            changed_words(alloc, found.changed.as_slice(), change_name(*change), at)
-        }
-        Some(Edit::Member { change, at, member }) => {
-            let at = moved(earlier, member_at(*at, member));
-            changed_words(alloc, found.changed.as_slice(), change_name(*change), at)
-        }
-        Some(Edit::Remove { number }) => {
-            changed_words(alloc, trace, "remove: ", Some(At::Entry(*number)))
-        }
+    listed: Listed,
+) -> Result<String, AllocError> {
+    match found.edits.get(listed.number) {
+        Some(Edit::Entry { change, .. } | Edit::Member { change, .. }) => changed_words(
+            alloc,
+            found.changed.as_slice(),
+            change_name(*change),
+            listed.at,
+        ),
+        Some(Edit::Remove { .. }) => changed_words(alloc, trace, "remove: ", listed.at),
         None => String::from_str(alloc, ""),
     }
 }
@@ -211,14 +205,5 @@ fn change_name(change: Change) -> &'static str {
     match change {
         Change::Insert => "insert: ",
         Change::Replace => "replace by: ",
-    }
-}
-
-/// The point that a member of a batch is.
-fn member_at(at: InBatch, member: &Member) -> At {
-    match member {
-        Member::Wait(_) => At::Wait(at.entry, at.batch, at.place),
-        Member::Command(_) => At::Command(at.entry, at.batch, at.place),
-        Member::Signal(_) => At::Signal(at.entry, at.batch, at.place),
     }
 }
