@@ -56,19 +56,24 @@ object_text kind.Semaphore = codes "semaphore"
 object_text kind.Event = codes "event"
 object_text kind.Defrag = codes "defragmentation"
 
--- The point that made an id (profile).
-abbrev pub making_text : Option Point → List ℕ
-making_text None = codes ": never made"
-making_text (Some p) = codes ": made by " ++ point_called p
+-- The point that made an id after the submit by whose past it is judged (profile).
+abbrev pub late_text : Option Point → List ℕ
+late_text None = codes ": not made so far"
+late_text (Some p) = codes ": made at " ++ (point_called p ++ codes ", after the submit")
+
+-- The point that made an id, or the one that made it after the submit (profile).
+abbrev pub making_text : Option Point → Option Point → List ℕ
+making_text None late = late_text late
+making_text (Some p) late = codes ": made at " ++ point_called p
 
 -- The point that ended it (profile).
 abbrev pub ending_text : Option Point → List ℕ
 ending_text None = []
-ending_text (Some p) = codes ", ended by " ++ point_called p
+ending_text (Some p) = codes ", ended at " ++ point_called p
 
--- What became of an id (profile).
-abbrev pub life_text : Life → List ℕ
-life_text l = making_text l.made ++ ending_text l.ended
+-- What became of an id, with the point that made it after the submit (profile).
+abbrev pub life_text : Life → Option Point → List ℕ
+life_text l late = making_text l.made late ++ ending_text l.ended
 
 -- The last signal of a semaphore (profile).
 abbrev pub last_text : Option Point → List ℕ
@@ -102,8 +107,8 @@ wanted_text k = codes " as a " ++ object_text k
 -- What is said of a fact (profile).
 abbrev pub fact_text : Fact → List ℕ
 fact_text (fact.Hazard f) = hazard_text f
-fact_text (fact.Made l) = named (codes "id ") l.id ++ life_text l
-fact_text (fact.Dead d) = named (codes "id ") d.life.id ++ (wanted_text d.wanted ++ life_text d.life)
+fact_text (fact.Made l) = named (codes "id ") l.id ++ life_text l None
+fact_text (fact.Dead d) = named (codes "id ") d.life.id ++ (wanted_text d.wanted ++ life_text d.life d.made_ever)
 fact_text (fact.Signaled f) = counter_text (codes ", signaled value ") f
 fact_text (fact.Waited f) = counter_text (codes ", awaited value ") f
 

@@ -1,8 +1,8 @@
-ghost use Rattle.std.specs.Prelude.{◌≡◌, ◌++◌, OnOk, IfOk, string_bytes, codes};
+ghost use Rattle.std.specs.Prelude.{◌≡◌, ◌++◌, OnOk, IfOk, Some, string_bytes, codes};
 ghost use Rattle.vk_fact_words.specs.FactText as text;
 
 use std::alloc::{AllocError, Global};
-use vk_facts::{CounterFact, Fact, HazardFact, Life, ObjectKind};
+use vk_facts::{CounterFact, DeadId, Fact, HazardFact, Life, ObjectKind};
 use vk_model::{At, Entry, Point};
 use vk_order::Byte;
 use vk_past::at_of;
@@ -16,13 +16,13 @@ pub fn push_fact(out: &mut String, fact: &Fact<'_>) -> Result<(), AllocError>
         Fact::Hazard(hazard) => push_hazard(out, hazard),
         Fact::Made(life) => {
             push_named(out, "id ", life.id as usize)?;
-            push_life(out, life)?;
+            push_life(out, life, &None)?;
             Ok(())
         }
         Fact::Dead(dead) => {
             push_named(out, "id ", dead.life.id as usize)?;
             push_wanted(out, dead.wanted)?;
-            push_life(out, &dead.life)?;
+            push_life(out, &dead.life, &dead.made_ever)?;
             Ok(())
         }
         Fact::Signaled(counter) => push_counter(out, ", signaled value ", counter),
@@ -135,20 +135,42 @@ fn object_name(kind: ObjectKind) -> &'static str
     }
 }
 
-fn push_life(out: &mut String, life: &Life<'_>) -> Result<(), AllocError>
-    ensures { OnOk result (string_bytes out.new ≡ string_bytes out.old ++ text.life_text life.now) }
+fn push_life(out: &mut String, life: &Life<'_>, late: &Option<Point<'_>>) -> Result<(), AllocError>
+    ensures { OnOk result (string_bytes out.new ≡ string_bytes out.old ++ text.life_text life.now late.now) }
 {
-    push_making(out, &life.made)?;
+    push_making(out, &life.made, late)?;
     push_ending(out, &life.ended)
 }
 
-fn push_making(out: &mut String, made: &Option<Point<'_>>) -> Result<(), AllocError>
-    ensures { OnOk result (string_bytes out.new ≡ string_bytes out.old ++ text.making_text made.now) }
+fn push_making(
+    out: &mut String,
+    made: &Option<Point<'_>>,
+    late: &Option<Point<'_>>,
+) -> Result<(), AllocError>
+    ensures { OnOk result (string_bytes out.new ≡ string_bytes out.old ++ text.making_text made.now late.now) }
 {
     match made {
-        None => out.push_str(": never made"),
-        Some(point) => push_after(out, ": made by ", point),
+        None => push_late(out, late),
+        Some(point) => push_after(out, ": made at ", point),
     }
+}
+
+fn push_late(out: &mut String, late: &Option<Point<'_>>) -> Result<(), AllocError>
+    ensures { OnOk result (string_bytes out.new ≡ string_bytes out.old ++ text.late_text late.now) }
+{
+    match late {
+        None => out.push_str(": not made so far"),
+        Some(point) => push_made_late(out, point),
+    }
+}
+
+fn push_made_late(out: &mut String, point: &Point<'_>) -> Result<(), AllocError>
+    ensures { OnOk result (string_bytes out.new ≡ string_bytes out.old ++ text.late_text (Some point.now)) }
+{
+    out.push_str(": made at ")?;
+    push_point(out, point)?;
+    out.push_str(", after the submit")?;
+    Ok(())
 }
 
 fn push_ending(out: &mut String, ended: &Option<Point<'_>>) -> Result<(), AllocError>
@@ -156,7 +178,7 @@ fn push_ending(out: &mut String, ended: &Option<Point<'_>>) -> Result<(), AllocE
 {
     match ended {
         None => Ok(()),
-        Some(point) => push_after(out, ", ended by ", point),
+        Some(point) => push_after(out, ", ended at ", point),
     }
 }
 
@@ -247,7 +269,7 @@ pub fn point_lines(
             push_line(alloc, &mut lines, trace, &hazard.earlier.row.point)?;
         }
         Some(Fact::Made(life)) => push_life_lines(alloc, &mut lines, trace, life)?,
-        Some(Fact::Dead(dead)) => push_life_lines(alloc, &mut lines, trace, &dead.life)?,
+        Some(Fact::Dead(dead)) => push_dead_lines(alloc, &mut lines, trace, dead)?,
         Some(Fact::Signaled(counter) | Fact::Waited(counter)) => {
             if let Some(last) = &counter.last {
                 push_line(alloc, &mut lines, trace, last)?;
@@ -256,6 +278,18 @@ pub fn point_lines(
         None => {}
     }
     Ok(lines)
+}
+
+fn push_dead_lines(
+    alloc: Global,
+    lines: &mut String,
+    trace: &[Entry],
+    dead: &DeadId<'_>,
+) -> Result<(), AllocError> {
+    match (&dead.life.made, &dead.made_ever) {
+        (None, Some(late)) => push_line(alloc, lines, trace, late),
+        _ => push_life_lines(alloc, lines, trace, &dead.life),
+    }
 }
 
 fn push_life_lines(

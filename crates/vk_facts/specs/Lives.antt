@@ -40,7 +40,7 @@ abbrev pub IsMade : Past → Point → Option Life → Type 0
 IsMade past p None = breaks_new_id past p ≡ false
 IsMade past p (Some l) = (option_and_then made_by (host_of p.action) ≡ Some l.id) × (breaks_new_id past p ≡ true) × IsLife past l.id l
 
--- A point names an id that isn't that of a live object of the kind asked, and that is what became of it; or it names none.
+-- A point names an id that isn't that of a live object of the kind asked, and that is what became of it, in the past in which it is judged and, of what made it, in all of its past; or it names none.
 abbrev pub IsDead : Past → Point → Option DeadId → Type 0
 IsDead past p None = list_any (is_dead (judged_in past p)) (asked_by p.action) ≡ false
-IsDead past p (Some d) = Contains (asked_by p.action) (d.life.id, kind_test d.wanted) × (is_dead (judged_in past p) (d.life.id, kind_test d.wanted) ≡ true) × IsLife (judged_in past p) d.life.id d.life
+IsDead past p (Some d) = Contains (asked_by p.action) (d.life.id, kind_test d.wanted) × (is_dead (judged_in past p) (d.life.id, kind_test d.wanted) ≡ true) × IsLife (judged_in past p) d.life.id d.life × (option_map point_of d.made_ever ≡ find (does Makes d.life.id) past)

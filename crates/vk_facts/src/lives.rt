@@ -30,6 +30,9 @@ pub struct DeadId<'a> {
     /// What became of it by the points that it is judged by: of a point of a batch those before its
     /// submit.
     pub life: Life<'a>,
+    /// The last of all earlier points that made an object of this id: where none of those points did,
+    /// one after the submit.
+    pub made_ever: Option<Point<'a>>,
     /// What the point asks for.
     pub wanted: ObjectKind,
 }
@@ -80,6 +83,7 @@ pub fn dead_id<'a>(
     match first_dead(judged, asked.as_slice()) {
         Some(dead) => Ok(Some(DeadId {
             life: life_of(judged, dead.id),
+            made_ever: latest(older, Doing::Makes, dead.id),
             wanted: dead.kind,
         })),
         None => Ok(None),

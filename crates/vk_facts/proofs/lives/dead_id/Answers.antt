@@ -10,8 +10,8 @@ pub returns-in-Some : goal.returns-in-Some
 returns-in-Some c =
     let d = c.in-Some.dead in
     let there = subst (λ (l : List Asked). Contains l d) c.as_slice.ensures.value c.in-Some.ensures.some.0 in
-    dead_from (past_of c.args.older.now) (point_of c.args.point.now) (past_of c.judged_points-judged.result.now) c.in_ok-asked.asked.items d c.life_of.result
-    c.judged_points-judged.ensures c.in_ok-asked.ensures there c.in-Some.ensures.some.1 c.life_of.ensures
+    dead_from (past_of c.args.older.now) (point_of c.args.point.now) (past_of c.judged_points-judged.result.now) c.in_ok-asked.asked.items d c.life_of.result c.latest.result
+    c.judged_points-judged.ensures c.in_ok-asked.ensures there c.in-Some.ensures.some.1 c.life_of.ensures c.latest.ensures
 
 pub returns : goal.returns
 returns c =
