@@ -65,6 +65,7 @@ fn mistake_line(
     let Some(mistake) = found else {
         return Ok(line);
     };
+    line.push_str("The input isn't a valid trace: ")?;
     if let Some(place) = place_of_mistake(alloc, input, &mistake.place)? {
         let InputPlace { line: at, column } = place;
         write!(line, "line {at}, column {column}")?;

@@ -82,7 +82,7 @@ pub fn repair_lines(
     match sought(alloc, trace, at, rule)? {
         RepairSearch::Found(found) => {
             let words = words_of(alloc, trace, &found)?;
-            lines_of(alloc, &words)
+            lines_of(alloc, &words, found.next)
         }
         RepairSearch::Nothing => String::from_str(alloc, "  repair: none found\n"),
         RepairSearch::TooLarge => none_sought(alloc),
@@ -93,22 +93,22 @@ pub fn repair_lines(
 fn none_sought(alloc: Global) -> Result<String, AllocError> {
     let mut line = String::from_str(
         alloc,
-        "  repair: none sought in a trace of more than 4,096 points, or with more than 16,384 ",
+        "  repair: none is sought in a trace of more than 4,096 points, or of more than 16,384 ",
     )?;
     line.push_str("regions, ranges, elements, waits and signals\n")?;
     Ok(line)
 }
 
-fn lines_of(alloc: Global, words: &RepairWords) -> Result<String, AllocError> {
-    let mut lines = String::from_str(alloc, "  repair")?;
-    if words.stands_in {
-        lines.push_str(", with zeros or objects that stand in for what the trace lacks")?;
-    } else if words.weaker {
-        lines.push_str(", weaker")?;
-    }
-    lines.push_str(": then ")?;
-    lines.push_str(words.then.as_str())?;
-    lines.push_str("\n")?;
+/// The lines on a repair, after which this is the first fault.
+fn lines_of(
+    alloc: Global,
+    words: &RepairWords,
+    next: Option<(At, Rule)>,
+) -> Result<String, AllocError> {
+    let mut lines = String::from_str(alloc, repair_name(words))?;
+    lines.push_str(": with ")?;
+    push_edits(&mut lines, words.edits.len())?;
+    push_next(&mut lines, next)?;
     for edit in &words.edits {
         lines.push_str("    ")?;
         lines.push_str(edit.point.as_str())?;
@@ -120,6 +120,38 @@ fn lines_of(alloc: Global, words: &RepairWords) -> Result<String, AllocError> {
         }
     }
     Ok(lines)
+}
+
+fn repair_name(words: &RepairWords) -> &'static str {
+    if words.stands_in {
+        "  repair with zeros or objects that stand in for what the trace lacks"
+    } else if words.weaker {
+        "  weaker repair, after which the trace asks for less"
+    } else {
+        "  repair"
+    }
+}
+
+fn push_edits(lines: &mut String, count: usize) -> Result<(), AllocError> {
+    if count == 1 {
+        lines.push_str("this edit")
+    } else {
+        write!(lines, "these {count} edits")
+    }
+}
+
+/// What is so after a repair, and the end of the line.
+fn push_next(lines: &mut String, next: Option<(At, Rule)>) -> Result<(), AllocError> {
+    match next {
+        Some((at, rule)) => {
+            lines.push_str(" the next fault is at ")?;
+            push_at(lines, at)?;
+            lines.push_str(", by ")?;
+            lines.push_str(rule.name())?;
+        }
+        None => lines.push_str(" the trace is accepted")?,
+    }
+    lines.push_str("\n")
 }
 
 /// A repair in words.

@@ -78,19 +78,19 @@ life_text l late = making_text l.made late ++ ending_text l.ended
 -- The last signal of a semaphore (profile).
 abbrev pub last_text : Option Point → List ℕ
 last_text None = codes "; no signal so far"
-last_text (Some p) = codes "; last: " ++ point_called p
+last_text (Some p) = codes "; last signal: " ++ point_called p
 
 -- How far a semaphore is, and the value that is asked for (profile).
 abbrev pub counter_text : List ℕ → CounterFact → List ℕ
-counter_text asked f = (named (codes "semaphore ") f.asked.semaphore ++ named (codes ": counter ") f.counter) ++ (named asked f.asked.value ++ last_text f.last)
+counter_text asked f = (named (codes "semaphore ") f.asked.semaphore ++ named (codes ": value ") f.counter) ++ (named asked f.asked.value ++ last_text f.last)
 
 -- An earlier access (profile).
 abbrev pub earlier_text : Point → List ℕ
-earlier_text p = codes "earlier: " ++ point_called p
+earlier_text p = codes "earlier access: " ++ point_called p
 
 -- The byte that both access (profile).
 abbrev pub common_text : Byte → List ℕ
-common_text b = codes "; common: " ++ byte_text b
+common_text b = codes "; both access " ++ byte_text b
 
 -- Whether they are ordered (profile).
 abbrev pub ordered_text : Bool → List ℕ

@@ -26,10 +26,10 @@ AreLinksOf entries at (Some f) found = AreLinksOfFact entries at f found
 abbrev pub missing_text : Missing → List ℕ
 missing_text missing.Flush = codes "a flush of the byte after the host's write"
 missing_text missing.Submit = codes "a submit after the host's write"
-missing_text missing.Available = codes "what makes the write available"
-missing_text missing.Order = codes "what orders the two"
-missing_text missing.Visible = codes "what makes the write visible to the access"
-missing_text missing.Wait = codes "a wait of the host"
+missing_text missing.Available = codes "a dependency that makes the write available"
+missing_text missing.Order = codes "a dependency that orders the two accesses"
+missing_text missing.Visible = codes "a dependency that makes the write visible to the later access"
+missing_text missing.Wait = codes "a wait by the host"
 missing_text missing.Invalidation = codes "an invalidation of the byte before the host's read"
 
 -- The point of a node that is reported, after some words (profile).
@@ -47,7 +47,7 @@ available_part l = node_text (codes "; flushed by ") l.flush ++ node_text (codes
 
 -- What makes it visible to the host, and what does so in time (profile).
 abbrev pub visible_part : Links → List ℕ
-visible_part l = node_text (codes "; made visible to the host by ") l.visible ++ node_text (codes "; in time by ") l.awaited
+visible_part l = node_text (codes "; made visible to the host by ") l.visible ++ node_text (codes "; in time for this access: ") l.awaited
 
 -- What is said of links (profile).
 abbrev pub links_text : Links → List ℕ

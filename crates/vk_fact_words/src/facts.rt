@@ -41,7 +41,7 @@ fn push_wanted(out: &mut String, kind: ObjectKind) -> Result<(), AllocError>
 fn push_hazard(out: &mut String, hazard: &HazardFact<'_>) -> Result<(), AllocError>
     ensures { OnOk result (string_bytes out.new ≡ string_bytes out.old ++ text.hazard_text hazard.now) }
 {
-    push_after(out, "earlier: ", &hazard.earlier.row.point)?;
+    push_after(out, "earlier access: ", &hazard.earlier.row.point)?;
     push_common(out, hazard.byte)?;
     push_ordered(out, hazard.is_ordered)?;
     Ok(())
@@ -50,7 +50,7 @@ fn push_hazard(out: &mut String, hazard: &HazardFact<'_>) -> Result<(), AllocErr
 fn push_common(out: &mut String, byte: Byte) -> Result<(), AllocError>
     ensures { OnOk result (string_bytes out.new ≡ string_bytes out.old ++ text.common_text byte) }
 {
-    out.push_str("; common: ")?;
+    out.push_str("; both access ")?;
     push_byte(out, byte)?;
     Ok(())
 }
@@ -187,7 +187,7 @@ fn push_last(out: &mut String, last: &Option<Point<'_>>) -> Result<(), AllocErro
 {
     match last {
         None => out.push_str("; no signal so far"),
-        Some(point) => push_after(out, "; last: ", point),
+        Some(point) => push_after(out, "; last signal: ", point),
     }
 }
 
@@ -201,10 +201,10 @@ fn push_counter(out: &mut String, asked: &str, fact: &CounterFact<'_>) -> Result
 }
 
 fn push_counted(out: &mut String, fact: &CounterFact<'_>) -> Result<(), AllocError>
-    ensures { OnOk result (string_bytes out.new ≡ string_bytes out.old ++ (text.named (codes "semaphore ") fact.now.asked.semaphore ++ text.named (codes ": counter ") fact.now.counter)) }
+    ensures { OnOk result (string_bytes out.new ≡ string_bytes out.old ++ (text.named (codes "semaphore ") fact.now.asked.semaphore ++ text.named (codes ": value ") fact.now.counter)) }
 {
     push_named(out, "semaphore ", fact.asked.semaphore as usize)?;
-    push_named(out, ": counter ", fact.counter as usize)?;
+    push_named(out, ": value ", fact.counter as usize)?;
     Ok(())
 }
 

@@ -50,10 +50,10 @@ fn missing_name(missing: Missing) -> &'static str
     match missing {
         Missing::Flush => "a flush of the byte after the host's write",
         Missing::Submit => "a submit after the host's write",
-        Missing::Available => "what makes the write available",
-        Missing::Order => "what orders the two",
-        Missing::Visible => "what makes the write visible to the access",
-        Missing::Wait => "a wait of the host",
+        Missing::Available => "a dependency that makes the write available",
+        Missing::Order => "a dependency that orders the two accesses",
+        Missing::Visible => "a dependency that makes the write visible to the later access",
+        Missing::Wait => "a wait by the host",
         Missing::Invalidation => "an invalidation of the byte before the host's read",
     }
 }
@@ -76,7 +76,7 @@ fn push_visible(out: &mut String, links: &Links<'_>) -> Result<(), AllocError>
     ensures { OnOk result (string_bytes out.new ≡ string_bytes out.old ++ text.visible_part links.now) }
 {
     push_node(out, "; made visible to the host by ", &links.visible)?;
-    push_node(out, "; in time by ", &links.awaited)
+    push_node(out, "; in time for this access: ", &links.awaited)
 }
 
 fn push_node(out: &mut String, words: &str, node: &Option<Placed<'_>>) -> Result<(), AllocError>

@@ -19,7 +19,7 @@ enum Member {
 }
 
 /// What is expected where an entry has no word, or another one.
-const ENTRY_WORDS: &str = "the word of an entry, as \"buffer\", \"submit\" or \"read\"";
+const ENTRY_WORDS: &str = "the name of an entry, such as \"buffer\", \"submit\" or \"read\"";
 
 /// What is expected where a place has no word, or another one.
 const PLACE_WORDS: &str = "\"dedicated\", \"memory\", \"pool\" or \"pool_upper\"";
@@ -135,7 +135,7 @@ fn unknown_word(alloc: Global, word: &Value) -> Search {
         Some("defrag") | Some("pass") | Some("end_pass") | Some("end_defrag") => found_there(
             alloc,
             ENTRY_WORDS,
-            "one of a defragmentation, which isn't supported yet",
+            "an entry of a defragmentation, which isn't supported yet",
         ),
         _ => another(alloc, ENTRY_WORDS, word),
     }

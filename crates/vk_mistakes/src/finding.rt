@@ -64,11 +64,11 @@ pub fn mistake_of(alloc: Global, input: &[u8]) -> Result<Option<Mistake>, AllocE
                 line: error.line(),
                 column: error.column(),
             },
-            expected: "JSON",
+            expected: "valid JSON",
             found: if error.is_eof() {
                 "the end of the input"
             } else {
-                "something else, or more than 127 arrays within arrays"
+                "a syntax error, or arrays nested more than 127 deep"
             },
         })),
     }
