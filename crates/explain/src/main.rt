@@ -1,40 +1,60 @@
-//! `explain`: reads a trace from standard input, and writes to standard output that it is accepted, or why
-//! it is refused.
+//! `explain`: reads traces, from files or from standard input, and writes to standard output that each
+//! is accepted, or why it is refused.
 #![tactic(auto)]
 
 mod exit;
+mod inputs;
 mod options;
+mod terminals;
 
-use exit::exit_status;
+use inputs::explain_all;
+use options::Options;
 use std::io;
 use std::process::ExitCode;
-use std::rt::Env;
-use vk_console::{arguments, complain, refuse};
-use vk_explain::{Wanted, run};
-use vk_trace::Watched;
+use std::rt::{Env, Files};
+use terminals::Terminals;
+use vk_console::{OptionsError, arguments, complain, refuse};
+use vk_trace::{RunError, Watched, write_all};
 
 /// Does what the command line asks, and answers the exit status.
-fn perform<R: Env + Input + Print + Eprint + AllocGlobal>(rt: &R) -> u8 {
+fn perform<R: Env + Files + Input + Print + Eprint + AllocGlobal>(
+    rt: &R,
+    terminals: Terminals,
+) -> u8 {
     let arguments = match arguments(rt) {
         Ok(arguments) => arguments,
         Err(status) => return status,
     };
     match options::read(rt.alloc(), arguments.as_slice()) {
-        Ok(wanted) => explain(rt, wanted),
-        Err(error) => refuse(rt, error),
+        Ok(Options { wanted, files }) => explain_all(rt, wanted, files.as_slice(), terminals),
+        Err(error) => answer(rt, error),
     }
 }
 
-/// Explains the standard input, and answers the exit status.
-fn explain<R: Env + Input + Print + Eprint + AllocGlobal>(rt: &R, wanted: Wanted) -> u8 {
-    let mut reader = Watched::new(rt.reader());
+/// Writes the help or the version, or says why the command line asks for nothing, and answers the exit
+/// status.
+fn answer<R: Print + Eprint + AllocGlobal>(rt: &R, error: OptionsError) -> u8 {
+    if let OptionsError::Refused(text) = &error {
+        if !text.use_stderr() {
+            return match text.to_string(rt.alloc()) {
+                Ok(text) => show(rt, text.as_bytes()),
+                Err(_) => complain(rt, RunError::NoMemory),
+            };
+        }
+    }
+    refuse(rt, error)
+}
+
+/// Writes a text to standard output, and answers the exit status.
+fn show<R: Print + Eprint>(rt: &R, text: &[u8]) -> u8 {
     let mut writer = Watched::new(io::writer(rt));
-    match run(rt.alloc(), &mut reader, &mut writer, wanted) {
-        Ok(judgment) => exit_status(judgment),
+    match write_all(&mut writer, text) {
+        Ok(()) => 0,
         Err(error) => complain(rt, error),
     }
 }
 
 fn main(rt: HostRuntime) -> ExitCode {
-    ExitCode::from(perform(&rt))
+    let terminals = Terminals::of(&rt);
+    ExitCode::from(perform(&rt, terminals))
 }

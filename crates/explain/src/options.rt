@@ -1,34 +1,78 @@
-use clap::{Arg, Command};
+use clap::error::ErrorKind;
+use clap::{Arg, ArgAction, ArgMatches, Command};
 use std::alloc::{AllocError, Global};
-use vk_console::OptionsError;
+use vk_console::{OptionsError, VERSION};
 use vk_explain::{Form, Wanted};
+
+/// What the command line asks for.
+#[derive(Drop)]
+pub struct Options<'a> {
+    /// What is asked of each trace.
+    pub wanted: Wanted,
+    /// The files of the traces, in this order; none where none is named.
+    pub files: Vec<&'a str>,
+}
+
+/// What the help says of a text after its options.
+const STATUSES: &str = "\
+Exit status: 0 if each trace is accepted, 1 if one breaks a rule, 2 if an input isn't a valid trace,
+4 if memory runs out, 5 if a file can't be read or the output can't be written, 6 if the command line
+is refused. Of several traces it is the greatest.";
 
 /// The command line of `explain`.
 fn command<'a>(alloc: Global) -> Result<Command<'a>, AllocError> {
     let json = Arg::new(alloc, "json")
         .long("json")
-        .action(clap::ArgAction::SetTrue)
-        .help("Writes an object of JSON in place of lines");
+        .action(ArgAction::SetTrue)
+        .help("Print an object of JSON on a line for each trace, instead of text");
     let repaired = Arg::new(alloc, "repaired")
         .long("repaired")
-        .action(clap::ArgAction::SetTrue)
-        .help("Writes the trace as it is after repairs, and nothing else");
+        .action(ArgAction::SetTrue)
+        .conflicts_with("json")?
+        .help("Print the trace with the repairs applied, and nothing else");
+    let files = Arg::new(alloc, "file")
+        .value_name("FILE")
+        .num_args(0..)
+        .action(ArgAction::Append)
+        .help("Files with a trace each; without one, and for -, standard input is read");
     Command::new(alloc, "explain")
+        .version(VERSION)
         .about(
-            "Says why a trace of Vulkan transfers from standard input is refused, or what it has",
+            "Explains which rule a trace of Vulkan transfers breaks, where, and how to repair it",
         )
+        .after_help(STATUSES)
         .arg(json)?
-        .arg(repaired)
+        .arg(repaired)?
+        .arg(files)
 }
 
 /// What the arguments ask for; the first one is the program's own name.
-pub fn read(alloc: Global, arguments: &[String]) -> Result<Wanted, OptionsError> {
-    let matches = command(alloc)?.try_get_matches_from(arguments)?;
+pub fn read<'a>(alloc: Global, arguments: &'a [String]) -> Result<Options<'a>, OptionsError> {
+    let mut command = command(alloc)?;
+    let matches = command.try_get_matches_from_mut(arguments)?;
+    let wanted = wanted_by(&matches);
+    let files = files_of(alloc, &matches)?;
+    if wanted == Wanted::Repaired && files.len() > 1 {
+        let message = "--repaired takes one trace, and several files are named";
+        let error = command.error(ErrorKind::ArgumentConflict, message)?;
+        return Err(OptionsError::Refused(error));
+    }
+    Ok(Options { wanted, files })
+}
+
+fn wanted_by(matches: &ArgMatches<'_>) -> Wanted {
     if matches.get_flag("repaired") {
-        Ok(Wanted::Repaired)
+        Wanted::Repaired
     } else if matches.get_flag("json") {
-        Ok(Wanted::Explained(Form::Json))
+        Wanted::Explained(Form::Json)
     } else {
-        Ok(Wanted::Explained(Form::Text))
+        Wanted::Explained(Form::Text)
+    }
+}
+
+fn files_of<'a>(alloc: Global, matches: &ArgMatches<'a>) -> Result<Vec<&'a str>, AllocError> {
+    match matches.get_strs("file") {
+        Some(files) => files.to_vec(alloc),
+        None => Ok(Vec::new(alloc)),
     }
 }

@@ -1,3 +1,4 @@
 pub mod Joins
+pub mod Colouring
 pub mod Verdicts
 pub mod Refusals

@@ -1,2 +1,3 @@
 -- What only the contracts within the crate cite.
+pub mod Coloured
 pub mod Repaired

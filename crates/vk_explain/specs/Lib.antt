@@ -1,2 +1,4 @@
 pub mod Explained
+pub mod Colours
+pub mod Presented
 pub mod Inner

@@ -7,12 +7,14 @@ ghost use Rattle.vk_model.specs.Trace.Supported.{is_supported};
 ghost use Rattle.vk_trace.specs.Trace.{IsTrace};
 ghost use Rattle.vk_trace.specs.Watching.{counted};
 ghost use Rattle.vk_trace.specs.Streams.{IsBeforeWriting, IsJudged};
+ghost use Rattle.vk_explain.specs.Presented.{IsAnswer};
 ghost use Rattle.vk_explain.specs.Explained.{Answers, Explains, IsExplained, IsExplanation, judgment_of};
 
 use crate::forms::{Form, Wanted};
 use crate::json::{acceptance_json, refusal_json};
 use crate::mending::repaired_of;
 use crate::mistakes::no_trace;
+use crate::presentation::{Presentation, presented};
 use crate::reports::{acceptance_text, refusal_text};
 use std::alloc::{AllocError, Global};
 use std::io::{Read, Write};
@@ -53,13 +55,14 @@ pub fn run<R: Read, W: Write>(
     reader: &mut Watched<R>,
     writer: &mut Watched<W>,
     wanted: Wanted,
+    presentation: &Presentation<'_>,
 ) -> Result<Judgment, RunError>
     requires reads { reader.old.failed ≡ false }
     requires writes { writer.old.failed ≡ false }
-    // What is asked of the bytes that were read is written, and nothing else is.
+    // What is asked of the bytes that were read is written, as it is presented, and nothing else is.
     ensures done { IfOk result (λ judgment. IfSome (R.remaining reader.old.inner) (λ input.
-        (text : List ℕ) × Answers wanted input text judgment
-        × Appends (W.contents writer.old.inner) (W.contents writer.new.inner) text)) }
+        (shown : List ℕ) × IsAnswer wanted presentation.now input shown judgment
+        × Appends (W.contents writer.old.inner) (W.contents writer.new.inner) shown)) }
     // That there is no trace is no error, but a verdict.
     ensures no_trace { result ≡ Err RunError.NotTrace → ⊥ }
     // Every error but that of a write has written nothing.
@@ -76,17 +79,40 @@ pub fn run<R: Read, W: Write>(
         ⊎ IfSome (R.remaining reader.old.inner) (λ input. 16777216 < length input) }
 {
     let input = read_all(alloc, reader)?;
-    match answer_to(alloc, &input, wanted) {
-        Ok(explanation) => {
-            write_all(writer, explanation.text.as_bytes())?;
-            Ok(explanation.judgment)
+    match answer_to(alloc, &input, wanted, presentation) {
+        Ok(answer) => {
+            write_all(writer, answer.shown.as_slice())?;
+            Ok(answer.judgment)
         }
         Err(_) => Err(RunError::NoMemory),
     }
 }
 
+/// What is written of an input.
+#[derive(Drop)]
+struct Answer {
+    /// The verdict.
+    judgment: Judgment,
+    /// The bytes to write.
+    shown: Vec<u8>,
+}
+
+/// What is asked of the bytes of an input, as it is presented.
+fn answer_to(
+    alloc: Global,
+    input: &[u8],
+    wanted: Wanted,
+    presentation: &Presentation<'_>,
+) -> Result<Answer, AllocError>
+    ensures { IfOk result (λ a. IsAnswer wanted presentation.now input.now a.shown.items a.judgment) }
+{
+    let Explanation { judgment, text } = said_of(alloc, input, wanted)?;
+    let shown = presented(alloc, text.as_bytes(), wanted, presentation)?;
+    Ok(Answer { judgment, shown })
+}
+
 /// What is asked of the bytes of an input.
-fn answer_to(alloc: Global, input: &[u8], wanted: Wanted) -> Result<Explanation, AllocError>
+fn said_of(alloc: Global, input: &[u8], wanted: Wanted) -> Result<Explanation, AllocError>
     ensures { IfOk result (λ e. Answers wanted input.now (string_bytes e.text) e.judgment) }
 {
     match wanted {

@@ -1,6 +1,7 @@
 //! Why a trace is refused, in words; or what an accepted one has.
 #![tactic(auto)]
 
+mod colours;
 mod explaining;
 mod forms;
 mod json;
@@ -8,6 +9,7 @@ mod listing;
 mod mending;
 mod mistakes;
 mod places;
+mod presentation;
 mod repairs;
 mod reports;
 
@@ -15,3 +17,4 @@ pub use explaining::{Explanation, Judgment, explanation_of, run};
 pub use forms::{Form, Wanted};
 pub use mending::repaired_of;
 pub use places::{InputPlace, place_of, place_of_member};
+pub use presentation::Presentation;

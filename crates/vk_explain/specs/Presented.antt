@@ -1,0 +1,43 @@
+-- How what is said of an input is written beside what is said of others (profile).
+use Rattle.std.specs.Prelude.{◌≡◌, ℕ, List, [], ◌∷◌, ◌++◌, drop, codes, Bool, true, false, Option, Some, None, option_map}
+use Rattle.vk_explain.specs.declared.forms.Form.TheVariants.{Text, Json}
+use Rattle.vk_explain.specs.declared.forms.Wanted.{Wanted}
+use Rattle.vk_explain.specs.declared.forms.Wanted.TheVariants.{Explained, Repaired}
+use Rattle.vk_explain.specs.declared.explaining.Judgment.{Judgment}
+use Rattle.vk_explain.specs.declared.presentation.Presentation.{Presentation}
+use Rattle.vk_explain.specs.Colours.{IsColoured}
+use Rattle.vk_explain.specs.Explained.{Answers}
+
+-- The name of an input, where it has one.
+abbrev pub name_of : Presentation → Option (List ℕ)
+name_of d = option_map (λ s. s.now) d.name
+
+-- An empty line, where something was written before.
+abbrev pub gap : Bool → List ℕ
+gap true = []
+gap false = 10 ∷ []
+
+-- The line with a name, if there is one.
+abbrev pub heading_of : Bool → Option (List ℕ) → List ℕ
+heading_of is_first None = []
+heading_of is_first (Some name) = gap is_first ++ (name ++ codes ":\n")
+
+-- Lines in colours, or as they are.
+abbrev pub AreLines : Bool → List ℕ → List ℕ → Type 0
+AreLines true text lines = IsColoured text lines
+AreLines false text lines = lines ≡ text
+
+-- An object with a name, quoted, as its first member.
+abbrev pub IsNamed : Option (List ℕ) → List ℕ → List ℕ → Type 0
+IsNamed None text shown = shown ≡ text
+IsNamed (Some name) text shown = (quoted : List ℕ) × (shown ≡ codes "{\"file\":" ++ (quoted ++ (codes "," ++ drop 1 text)))
+
+-- What is written of a text: lines below their heading, which alone may have colours; an object with a name; a trace as it is.
+abbrev pub IsPresented : Wanted → Presentation → List ℕ → List ℕ → Type 0
+IsPresented (Explained Text) d text shown = (lines : List ℕ) × AreLines d.is_coloured text lines × (shown ≡ heading_of d.is_first (name_of d) ++ lines)
+IsPresented (Explained Json) d text shown = IsNamed (name_of d) text shown
+IsPresented Repaired d text shown = shown ≡ text
+
+-- What is written is the answer to an input, as it is presented.
+abbrev pub IsAnswer : Wanted → Presentation → List ℕ → List ℕ → Judgment → Type 0
+IsAnswer wanted d input shown judgment = (text : List ℕ) × Answers wanted input text judgment × IsPresented wanted d text shown

@@ -1,0 +1,94 @@
+ghost use Rattle.std.specs.Prelude.{◌≡◌, IfOk, option_map};
+ghost use Rattle.vk_explain.specs.Presented.{heading_of, AreLines, IsNamed, IsPresented};
+ghost use Rattle.vk_explain.specs.declared.forms.Form.TheVariants.{Text};
+ghost use Rattle.vk_explain.specs.declared.forms.Wanted.TheVariants.{Explained};
+
+use crate::colours::coloured;
+use crate::forms::{Form, Wanted};
+use std::alloc::{AllocError, Global};
+use vk_fact_words::push_quoted;
+
+/// How what is said of an input is written beside what is said of others.
+#[derive(Clone, Copy)]
+pub struct Presentation<'a> {
+    /// The name of the input, for a line above or a first member; none where it is the only one.
+    pub name: Option<&'a str>,
+    /// Whether nothing was written before.
+    pub is_first: bool,
+    /// Whether lines have colours of a terminal. Objects and traces have none.
+    pub is_coloured: bool,
+}
+
+/// What is asked of an input, with the name of the input and in colours.
+pub fn presented(
+    alloc: Global,
+    text: &[u8],
+    wanted: Wanted,
+    presentation: &Presentation<'_>,
+) -> Result<Vec<u8>, AllocError>
+    ensures { IfOk result (λ shown. IsPresented wanted presentation.now text.now shown.items) }
+{
+    match wanted {
+        Wanted::Explained(Form::Text) => with_heading(alloc, text, presentation),
+        Wanted::Explained(Form::Json) => with_name(alloc, text, presentation.name),
+        Wanted::Repaired => text.to_vec(alloc),
+    }
+}
+
+/// Lines below a heading.
+fn with_heading(
+    alloc: Global,
+    text: &[u8],
+    presentation: &Presentation<'_>,
+) -> Result<Vec<u8>, AllocError>
+    ensures { IfOk result (λ shown. IsPresented (Explained Text) presentation.now text.now shown.items) }
+{
+    let mut all = heading(alloc, presentation.name, presentation.is_first)?;
+    let lines = lines_of(alloc, text, presentation.is_coloured)?;
+    all.extend_from_slice(&lines)?;
+    Ok(all)
+}
+
+/// The line with a name, below an empty line where something comes before.
+fn heading(alloc: Global, name: Option<&str>, is_first: bool) -> Result<Vec<u8>, AllocError>
+    ensures { IfOk result (λ line. line.items ≡ heading_of is_first (option_map (λ s. s.now) name.entry)) }
+{
+    let mut line = Vec::new(alloc);
+    if let Some(name) = name {
+        if !is_first {
+            line.push(b'\n')?;
+        }
+        line.extend_from_slice(name.as_bytes())?;
+        line.extend_from_slice(b":\n")?;
+    }
+    Ok(line)
+}
+
+/// Lines in colours, or as they are.
+fn lines_of(alloc: Global, text: &[u8], is_coloured: bool) -> Result<Vec<u8>, AllocError>
+    ensures { IfOk result (λ lines. AreLines is_coloured text.now lines.items) }
+{
+    if is_coloured {
+        coloured(alloc, text)
+    } else {
+        text.to_vec(alloc)
+    }
+}
+
+/// An object with a name as its first member.
+fn with_name(alloc: Global, text: &[u8], name: Option<&str>) -> Result<Vec<u8>, AllocError>
+    ensures { IfOk result (λ shown. IsNamed (option_map (λ s. s.now) name.entry) text.now shown.items) }
+{
+    let Some(name) = name else {
+        return text.to_vec(alloc);
+    };
+    let mut quoted = String::new(alloc);
+    push_quoted(alloc, &mut quoted, String::from_str(alloc, name)?)?;
+    let mut all = b"{\"file\":".to_vec(alloc)?;
+    all.extend_from_slice(quoted.as_bytes())?;
+    all.push(b',')?;
+    if let Some((_, rest)) = text.split_first() {
+        all.extend_from_slice(rest)?;
+    }
+    Ok(all)
+}
