@@ -1,14 +1,17 @@
 #!/usr/bin/env python3
 """Checks docs/trace.schema.json: that it is a schema, that the traces of examples/ and of docs/ fit it,
 and that what is no trace doesn't, those of examples/no_traces/ among it that are JSON. It needs
-jsonschema (Debian: python3-jsonschema). Traces with defragmentation, which no program takes yet, are
-no traces. Prints 'N passed, M failed'."""
+jsonschema 4 or later (Debian: python3-jsonschema); without it nothing is checked, and all is skipped. Traces
+with defragmentation, which no program takes yet, are no traces. Ends with 'N passed, M failed'."""
 
 import json
 import pathlib
 import sys
 
-import jsonschema
+try:
+    from jsonschema import Draft202012Validator
+except ImportError:
+    Draft202012Validator = None
 
 TOP = pathlib.Path(__file__).resolve().parent.parent
 
@@ -72,9 +75,13 @@ def no_traces():
 
 
 def main():
+    if Draft202012Validator is None:
+        print('skipped: the schema: this needs jsonschema 4 or later (Debian: python3-jsonschema)')
+        print('0 passed, 0 failed, 1 skipped')
+        return 0
     schema = json.loads((TOP / 'docs' / 'trace.schema.json').read_text())
-    jsonschema.Draft202012Validator.check_schema(schema)
-    validator = jsonschema.Draft202012Validator(schema)
+    Draft202012Validator.check_schema(schema)
+    validator = Draft202012Validator(schema)
     wanted = [(where, text, '["defrag",' not in text) for where, text in traces()]
     wanted += [(where, text, False) for where, text in no_traces()]
     failed = 0
