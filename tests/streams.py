@@ -1,0 +1,321 @@
+#!/usr/bin/env python3
+"""Tests what both programs make of their streams and of little memory: statuses 2, 4 and 5 and their texts.
+
+    PROGRAM=FILE EXPLAIN=FILE tests/streams.py [WORD]
+
+With WORD only the tests run whose names have it.
+"""
+
+import os
+import re
+import socket
+import subprocess
+import sys
+import tempfile
+import threading
+import time
+
+sys.dont_write_bytecode = True
+
+from harness import EXPLAIN, PROGRAM, SECONDS, TOP, Answer, Skipped, Test
+from harness import answered, compared, difference, main, run
+
+MOST_BYTES = 16_777_216
+MOST_READS = 1_048_576
+MIB = 1_048_576
+PROGRAMS = [("replay", PROGRAM), ("explain", EXPLAIN)]
+READ_FAILED = answered("", 5, "read failed\n")
+TOO_LONG = answered("", 5, "too long\n")
+NO_MEMORY = answered("", 4, "no memory\n")
+WRITE_FAILED = answered("", 5, "write failed after 0 bytes\n")
+
+TRACE = (TOP / "examples" / "first_upload.json").read_bytes()
+ENDINGS = {"replay": "expected", "explain": "explained"}
+# What each program answers to the trace, and to one without entries.
+ANSWERS = {name: answered((TOP / "examples" / f"first_upload.{ending}").read_text(encoding="utf-8"))
+           for name, ending in ENDINGS.items()}
+
+
+# A trace of which each program writes more than a pipe holds: as `replay` reads it, and as `explain --repaired`
+# writes it again.
+BYTES = "ab" * 262_144
+LONG = f"""\
+[["buffer",1,262144,3,"exclusive",["dedicated",1]],
+ ["map",1],
+ ["write",1,0,"{BYTES}"],
+ ["read",1,0,262144]]
+""".encode()
+LONG_ANSWERS = {"replay": f"3 {BYTES}\n".encode(), "explain": LONG}
+LONG_OPTIONS = {"replay": [], "explain": ["--repaired"]}
+
+
+def through_shell(redirection, program, *arguments):
+    """A command that runs the program with a redirection of the shell."""
+    return ["sh", "-c", f'exec "$@" {redirection}', "sh", program, *arguments]
+
+
+# ---- standard input
+
+
+def input_tests(name, program):
+    """Inputs that can't be read, have nothing, or are as long as may be."""
+    whole = ANSWERS[name]
+    yield compared(f"{name}: closed input", READ_FAILED, through_shell("<&-", program))
+    yield Test(f"{name}: a directory as input", lambda: judge_opened(program, READ_FAILED, "/", os.O_RDONLY))
+    yield Test(
+        f"{name}: an input that is open for writing alone",
+        lambda: judge_opened(program, READ_FAILED, os.devnull, os.O_WRONLY),
+    )
+    yield Test(f"{name}: an input without bytes", lambda: judge_empty(name, program))
+    yield Test(f"{name}: a file as input", lambda: judge_file(program, whole, TRACE))
+    long = TRACE.ljust(MOST_BYTES, b" ")
+    yield compared(f"{name}: 16777216 bytes through a pipe", whole, [program], long)
+    yield Test(f"{name}: a file of 16777216 bytes", lambda: judge_file(program, whole, long))
+    yield compared(f"{name}: 16777217 bytes through a pipe", TOO_LONG, [program], long + b" ")
+    yield Test(f"{name}: a file of 16777217 bytes", lambda: judge_file(program, TOO_LONG, long + b" "))
+    yield Test(f"{name}: an input without end", lambda: judge_opened(program, TOO_LONG, "/dev/zero", os.O_RDONLY))
+    yield Test(f"{name}: a slow writer, byte by byte", lambda: judge_slow(program, whole))
+    yield Test(
+        f"{name}: an end at read 1048576", lambda: judge_messages(program, whole, MOST_READS - 1)
+    )
+    yield Test(f"{name}: no end at read 1048576", lambda: judge_messages(program, TOO_LONG, MOST_READS))
+
+
+def judge_opened(program, wanted, path, mode):
+    """Runs the program on what is at the path."""
+    number = os.open(path, mode)
+    try:
+        return difference(wanted, run([program], stdin=number))
+    finally:
+        os.close(number)
+
+
+def judge_empty(name, program):
+    """Of no bytes `replay` says on standard error that they are no trace, `explain` on standard output."""
+    answer = run([program], stdin=subprocess.DEVNULL)
+    if name == "replay":
+        return difference(answered("", 2, "no trace\n"), answer)
+    begins = answer.output[: len(b"no trace\n")]
+    return difference((b"no trace\n", 2, b""), (begins, answer.status, answer.error))
+
+
+def judge_file(program, wanted, text):
+    """Runs the program on a file that has the text."""
+    with tempfile.TemporaryFile() as file:
+        file.write(text)
+        file.seek(0)
+        return difference(wanted, run([program], stdin=file))
+
+
+def fed(program, feed, taken):
+    """What the program answers to what `feed` gives it by one end of what it reads the other end of."""
+    feeder = threading.Thread(target=feed)
+    feeder.start()
+    try:
+        return run([program], stdin=taken)
+    finally:
+        taken.close()
+        feeder.join()
+
+
+def judge_slow(program, wanted):
+    """Runs the program on a pipe into which the trace is written byte by byte."""
+    reader, writer = os.pipe()
+
+    def feed():
+        try:
+            for byte in TRACE:
+                os.write(writer, bytes([byte]))
+                time.sleep(0.001)
+        except BrokenPipeError:
+            pass
+        finally:
+            os.close(writer)
+
+    return difference(wanted, fed(program, feed, os.fdopen(reader, "rb", 0)))
+
+
+def judge_messages(program, wanted, count):
+    """Runs the program on a socket of which each read gives one byte: those of the trace, and blanks."""
+    if not hasattr(socket, "SOCK_SEQPACKET"):
+        raise Skipped("there are no sockets that keep the bounds of messages")
+    sender, taker = socket.socketpair(socket.AF_UNIX, socket.SOCK_SEQPACKET)
+    sender.settimeout(SECONDS)
+
+    def feed():
+        try:
+            for byte in TRACE:
+                sender.send(bytes([byte]))
+            for _ in range(count - len(TRACE)):
+                sender.send(b" ")
+        except OSError:
+            pass
+        finally:
+            sender.close()
+
+    return difference(wanted, fed(program, feed, taker))
+
+
+# ---- standard output and standard error
+
+
+def output_tests(name, program):
+    """Outputs that are closed, full, or have no reader."""
+    yield compared(f"{name}: closed output", WRITE_FAILED, through_shell(">&-", program), TRACE)
+    yield Test(f"{name}: a full output", lambda: judge_output(program, "/dev/full", os.O_WRONLY))
+    yield Test(
+        f"{name}: an output that is open for reading alone",
+        lambda: judge_output(program, os.devnull, os.O_RDONLY),
+    )
+    for ignored in ("", "trap '' PIPE; "):
+        said = ", with the signal of a broken pipe ignored" if ignored else ""
+        command = ["sh", "-c", f'{ignored}exec "$@"', "sh", program]
+        yield Test(f"{name}: an output without a reader{said}", lambda c=command: judge_unread(c))
+        yield Test(
+            f"{name}: a reader that ends early{said}",
+            lambda c=command: judge_early_end([*c, *LONG_OPTIONS[name]], LONG_ANSWERS[name]),
+        )
+    yield compared(
+        f"{name}: more than a pipe holds",
+        Answer(LONG_ANSWERS[name], 0, b""),
+        [program, *LONG_OPTIONS[name]],
+        LONG,
+    )
+    for closed in ("2>&-", "2>/dev/full"):
+        yield compared(
+            f"{name}: a closed input, and {closed}", answered("", 5), through_shell(f"<&- {closed}", program)
+        )
+        yield compared(
+            f"{name}: an unknown option, and {closed}",
+            answered("", 6),
+            through_shell(closed, program, "--nothing"),
+            TRACE,
+        )
+        yield compared(
+            f"{name}: a closed output, and {closed}", answered("", 5), through_shell(f">&- {closed}", program), TRACE
+        )
+
+
+def replay_tests():
+    """Where nothing is to be written, no write fails; what is refused or no trace has its own status."""
+    yield compared("replay: closed output, and nothing to write", answered(), through_shell(">&-", PROGRAM), b"[]")
+    yield compared(
+        "replay: full output, and nothing to write", answered(), through_shell(">/dev/full", PROGRAM), b"[]"
+    )
+    broken = (TOP / "examples" / "missing_dependency.json").read_bytes()
+    full_heap = (TOP / "examples" / "full_heap.json").read_bytes()
+    for trace, what in ((broken, "a refusal"), (full_heap, "a stop")):
+        yield compared(f"replay: full output, and {what}", WRITE_FAILED, through_shell(">/dev/full", PROGRAM), trace)
+    for closed in (">&-", ">/dev/full"):
+        yield compared(
+            f"replay: no trace, and {closed}", answered("", 2, "no trace\n"), through_shell(closed, PROGRAM), b"[["
+        )
+    for closed in ("2>&-", "2>/dev/full"):
+        yield compared(f"replay: no trace, and {closed}", answered("", 2), through_shell(closed, PROGRAM), b"[[")
+
+
+def judge_output(program, path, mode):
+    """Runs the program with what is at the path as standard output."""
+    number = os.open(path, mode)
+    try:
+        return difference(WRITE_FAILED, run([program], TRACE, stdout=number))
+    finally:
+        os.close(number)
+
+
+def judge_unread(command):
+    """Runs a program with a pipe as standard output that has no reader."""
+    reader, writer = os.pipe()
+    os.close(reader)
+    try:
+        return difference(WRITE_FAILED, run(command, TRACE, stdout=writer))
+    finally:
+        os.close(writer)
+
+
+def judge_early_end(command, whole, front=10):
+    """Reads the front of what a program writes and then no more; it says how much it wrote."""
+    with tempfile.TemporaryFile() as file:
+        file.write(LONG)
+        file.seek(0)
+        with subprocess.Popen(command, stdin=file, stdout=subprocess.PIPE, stderr=subprocess.PIPE) as program:
+            late = threading.Timer(SECONDS, program.kill)
+            late.start()
+            begins = program.stdout.read(front)
+            program.stdout.close()
+            error = program.stderr.read()
+            program.wait()
+            late.cancel()
+    said = re.fullmatch(rb"write failed after (\d+) bytes\n", error)
+    if said and front <= int(said[1]) < len(whole) and begins == whole[:front] and program.returncode == 5:
+        return None
+    came = Answer(begins, program.returncode, error)
+    return f"wanted: status 5, a front of the output, and how long it is on standard error\n  came:   {came}"
+
+
+# ---- little memory
+
+
+def limited(mebibytes, program, data):
+    """What the program answers with so much address space."""
+    command = ["sh", "-c", f'ulimit -v {mebibytes * 1024} && exec "$@"', "sh", program]
+    return run(command, data)
+
+
+def room_needed(program):
+    """The least number of mebibytes with which the program answers to a trace without entries."""
+    low, high = 0, 4096
+    if limited(high, program, b"[]").status != 0:
+        raise Skipped(f"the program doesn't start in {high} MiB, as one with a sanitizer doesn't")
+    while high - low > 1:
+        middle = (low + high) // 2
+        if limited(middle, program, b"[]").status == 0:
+            high = middle
+        else:
+            low = middle
+    return high
+
+
+def memory_tests(name, program):
+    """Of what needs more memory than there is nothing is written, and it is said."""
+    entries = b",".join(b'["semaphore",%d,0]' % k for k in range(120_000))
+    for what, text in (("blanks", TRACE.ljust(MOST_BYTES, b" ")), ("entries", b"[" + entries + b"]")):
+        yield Test(f"{name}: little memory for many {what}", lambda t=text: judge_little(program, t))
+    yield Test(f"{name}: just enough memory to start", lambda: judge_start(program, ANSWERS[name]))
+
+
+def judge_little(program, text):
+    """Runs the program with room to start and little more, and with enough."""
+    needed = room_needed(program)
+    for more in (0, 1, 2, 4, 8):
+        found = difference(NO_MEMORY, limited(needed + more, program, text))
+        if found:
+            return f"with {needed + more} MiB: {found}"
+    answer = limited(needed + 2048, program, text)
+    return None if answer.status == 0 else f"with {needed + 2048} MiB: {answer}"
+
+
+def judge_start(program, whole):
+    """With too little memory to start nothing is written, and the status isn't 0."""
+    needed = room_needed(program)
+    for mebibytes in range(1, needed + 3):
+        answer = limited(mebibytes, program, TRACE)
+        is_whole = answer == whole
+        if not is_whole and (answer.status == 0 or answer.output):
+            return f"with {mebibytes} MiB: {answer}"
+        if answer.status == 4 and answer != NO_MEMORY:
+            return f"with {mebibytes} MiB: {answer}"
+    return None
+
+
+def all_tests():
+    """All of them."""
+    word = sys.argv[1] if len(sys.argv) > 1 else ""
+    tests = []
+    for name, program in PROGRAMS:
+        tests += [*input_tests(name, program), *output_tests(name, program), *memory_tests(name, program)]
+    return [test for test in tests + [*replay_tests()] if word in test.name]
+
+
+if __name__ == "__main__":
+    sys.exit(main(all_tests()))
