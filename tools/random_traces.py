@@ -5,25 +5,36 @@
 
 Each trace is drawn from the seed and its number (drawing.py), and run with `--order first`, with `last`,
 and with the seeds 0 to 15: output, exit status and standard error have to be the same. They also have to
-be those of the slow reading (slow_reading.py), unless `--orders-only` is given. The first difference is
-made as small as leaving out entries, batches, commands and elements makes it, and printed; the exit status
-is then 1. At the end it is printed what was drawn. `--only N` runs trace N alone, and prints it.
+be those of the slow reading (slow_reading.py), unless `--orders-only` is given. As many traces are run side
+by side as there are processors. The first difference is made as small as leaving out entries, batches,
+commands and elements makes it, and printed; no more are run then. At the end it is printed what was drawn,
+and then 'N passed, M failed'; the exit status is 0 where nothing failed. `--only N` runs trace N alone, and
+prints it.
 """
 
 import argparse
 import json
+import multiprocessing
+import pathlib
 import random
 import subprocess
 import sys
+import time
 from collections import Counter
 
+sys.dont_write_bytecode = True
+sys.path.append(str(pathlib.Path(__file__).resolve().parent.parent / "tests"))
+
 from drawing import draw
+from harness import PROGRAM, Progress, last_line, processors
 from slow_reading import read
 from slow_room import in_pool
 
 ORDERS = [("first",), ("last",), *(("seed", "--seed", str(seed)) for seed in range(16))]
 PIECE = 4_096
 SECONDS = 60
+# A difference is no longer made smaller then.
+SHRINKING_SECONDS = 60
 # Entries and commands of which it is counted in how many traces they are.
 NAMES = ("memory", "write", "flush", "invalidate", "update", "copy", "destroy", "free", "unmap", "pool", "drop_pool")
 
@@ -32,9 +43,12 @@ def run(program, trace, heaps, order):
     """What the program answers: its output, its exit status and its standard error."""
     heap_options = ["--heap0", str(heaps[0]), "--heap1", str(heaps[1])]
     command = [program, "--order", *order, *heap_options]
-    ended = subprocess.run(
-        command, input=json.dumps(trace).encode(), capture_output=True, timeout=SECONDS
-    )
+    try:
+        ended = subprocess.run(
+            command, input=json.dumps(trace).encode(), capture_output=True, timeout=SECONDS
+        )
+    except subprocess.TimeoutExpired:
+        return "", f"none: no end in {SECONDS} s", ""
     return ended.stdout.decode(), ended.returncode, ended.stderr.decode()
 
 
@@ -80,11 +94,15 @@ def smaller_item(item):
 
 
 def shrunk(program, trace, heaps, with_reading, found):
-    """A trace with a difference from which nothing can be left out, and what differs."""
+    """A trace with a difference from which nothing can be left out, and what differs; a larger one where
+    finding it takes long."""
     orders = [ORDERS[0], found[0]]
+    late = time.monotonic() + SHRINKING_SECONDS
     fewer = next(smaller(trace), None)
     while fewer is not None:
         for fewer in smaller(trace):
+            if time.monotonic() > late:
+                return trace, found[1]
             differs = difference(program, fewer, heaps, with_reading, orders)
             if differs is not None:
                 trace, found = fewer, differs
@@ -170,7 +188,7 @@ def print_counts(drawn, counts, rules):
 
 def arguments():
     parser = argparse.ArgumentParser(description=__doc__.splitlines()[0])
-    parser.add_argument("program", help="the program `replay`, as it was built")
+    parser.add_argument("program", nargs="?", default=PROGRAM, help="the program `replay`, as it was built")
     parser.add_argument("--count", type=int, default=200, help="how many traces are drawn")
     parser.add_argument("--seed", type=int, default=0, help="where the drawing begins")
     parser.add_argument("--only", type=int, help="runs the trace of this number alone, and prints it")
@@ -178,24 +196,55 @@ def arguments():
     return parser.parse_args()
 
 
+def judged(task):
+    """What differs for one trace, if anything, and what is counted of it and of the rule that it breaks."""
+    options, number = task
+    trace, heaps = draw(random.Random(f"{options.seed}/{number}"))
+    counts, rules = Counter(), Counter()
+    found = difference(options.program, trace, heaps, not options.orders_only)
+    if found is None:
+        count_trace(read(trace, heaps), counts, rules)
+    return found, counts, rules
+
+
+def print_difference(options, number, found):
+    """Makes a trace that differs smaller, and prints it."""
+    trace, heaps = draw(random.Random(f"{options.seed}/{number}"))
+    trace, text = shrunk(options.program, trace, heaps, not options.orders_only, found)
+    print(f"trace {number} of seed {options.seed} differs; made smaller, with heaps of {heaps}:")
+    print(f"{json.dumps(trace)}\n{text}")
+
+
+def run_all(options, numbers):
+    """Runs the traces of these numbers, and answers how many have passed and failed."""
+    counts, rules = Counter(), Counter()
+    progress = Progress(len(numbers))
+    tasks = [(options, number) for number in numbers]
+    with multiprocessing.Pool(min(processors(), len(tasks))) as pool:
+        for done, (found, more, broken) in enumerate(pool.imap(judged, tasks)):
+            progress.note(done)
+            if found is not None:
+                pool.terminate()
+                progress.clear()
+                print_difference(options, numbers[done], found)
+                return done, 1
+            counts.update(more)
+            rules.update(broken)
+    progress.clear()
+    print_counts(len(numbers), counts, rules)
+    return len(numbers), 0
+
+
 def main():
     options = arguments()
     print(f"seed {options.seed}", flush=True)
-    counts, rules = Counter(), Counter()
     numbers = range(options.count) if options.only is None else [options.only]
-    for number in numbers:
-        trace, heaps = draw(random.Random(f"{options.seed}/{number}"))
-        if options.only is not None:
-            print(json.dumps(trace), heaps)
-        found = difference(options.program, trace, heaps, not options.orders_only)
-        if found is not None:
-            trace, text = shrunk(options.program, trace, heaps, not options.orders_only, found)
-            print(f"trace {number} differs; made smaller, with heaps of {heaps}:")
-            print(f"{json.dumps(trace)}\n{text}")
-            return 1
-        count_trace(read(trace, heaps), counts, rules)
-    print_counts(len(numbers), counts, rules)
-    return 0
+    if options.only is not None:
+        trace, heaps = draw(random.Random(f"{options.seed}/{options.only}"))
+        print(json.dumps(trace), heaps)
+    passed, failed = run_all(options, numbers)
+    print(last_line(passed, failed))
+    return 1 if failed else 0
 
 
 if __name__ == "__main__":
