@@ -147,9 +147,9 @@ class Drawing(Courses, Pools):
         }
         if self.pictures:
             of_images = ("LAYOUT", "OLD_LAYOUT", "FORMAT", "SUBRESOURCE", "OVERLAP", "OWNER_WHOLE")
-            near |= dict.fromkeys(of_images, [self.change_image])
+            near.update(dict.fromkeys(of_images, [self.change_image]))
         odd = [self.odd_reach] if on_host else [self.bare_barrier]
-        near |= dict.fromkeys(("SIZE", "RANGE", "LIVE_ID", "STAGE"), odd)
+        near.update(dict.fromkeys(("SIZE", "RANGE", "LIVE_ID", "STAGE"), odd))
         return steps + 10 * near.get(kept, []) * (self.slips > 0)
 
     def new_buffer(self):

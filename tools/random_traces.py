@@ -17,6 +17,7 @@ import json
 import multiprocessing
 import pathlib
 import random
+import signal
 import subprocess
 import sys
 import time
@@ -26,7 +27,7 @@ sys.dont_write_bytecode = True
 sys.path.append(str(pathlib.Path(__file__).resolve().parent.parent / "tests"))
 
 from drawing import draw
-from harness import PROGRAM, Progress, last_line, processors
+from harness import PROGRAM, Progress, build, last_line, processors
 from slow_reading import read
 from slow_room import in_pool
 
@@ -36,7 +37,10 @@ SECONDS = 60
 # A difference is no longer made smaller then.
 SHRINKING_SECONDS = 60
 # Entries and commands of which it is counted in how many traces they are.
-NAMES = ("memory", "write", "flush", "invalidate", "update", "copy", "destroy", "free", "unmap", "pool", "drop_pool")
+NAMES = (
+    *("memory", "write", "flush", "invalidate", "update", "copy"),
+    *("destroy", "free", "unmap", "pool", "drop_pool"),
+)
 
 
 def run(program, trace, heaps, order):
@@ -52,12 +56,12 @@ def run(program, trace, heaps, order):
     return ended.stdout.decode(), ended.returncode, ended.stderr.decode()
 
 
-def difference(program, trace, heaps, with_reading, orders=ORDERS):
+def difference(program, trace, heaps, reading, orders=ORDERS):
     """The order in which the answer differs from that of the first order, or the first order where it
-    isn't that of the slow reading, with both answers; nothing where all agree."""
+    isn't that of the slow reading, if there is one, with both answers; nothing where all agree."""
     first = run(program, trace, heaps, orders[0])
-    if with_reading:
-        wanted = (*read(trace, heaps).answer(), "")
+    if reading is not None:
+        wanted = (*reading.answer(), "")
         if first != wanted:
             return orders[0], f"the slow reading: {wanted}\nthe program: {first}"
     for order in orders[1:]:
@@ -103,7 +107,8 @@ def shrunk(program, trace, heaps, with_reading, found):
         for fewer in smaller(trace):
             if time.monotonic() > late:
                 return trace, found[1]
-            differs = difference(program, fewer, heaps, with_reading, orders)
+            reading = read(fewer, heaps) if with_reading else None
+            differs = difference(program, fewer, heaps, reading, orders)
             if differs is not None:
                 trace, found = fewer, differs
                 break
@@ -147,14 +152,17 @@ def count_accepted(reading, counts):
     for name in ("clear", "copy_in", "copy_out", "copy_image"):
         counts[f"with {name}"] += name in names
     counts["with layout transitions"] += any(n.is_transition() for n in elements)
-    counts["with halves of transfers of images"] += any(n.half() is not None for n in elements if n.parts)
+    of_images = [n for n in elements if n.parts]
+    counts["with halves of transfers of images"] += any(n.half() is not None for n in of_images)
     counts["with reads"] += bool(reading.reads)
     origins = [sources(reading, host_read) for host_read in reading.reads]
     counts["with reads of bytes from several pieces"] += any(len(p) > 1 for p, _ in origins)
     counts["with reads of bytes from several queues"] += any(len(q) > 1 for _, q in origins)
     through_cache = [q for r, (_, q) in zip(reading.reads, origins) if reading.is_cached(r[2])]
     counts["with reads through the cache"] += bool(through_cache)
-    counts["with reads through the cache of bytes from a queue"] += any(q - {None} for q in through_cache)
+    counts["with reads through the cache of bytes from a queue"] += any(
+        q - {None} for q in through_cache
+    )
     counts["with reads through the cache of bytes from a queue and the host"] += any(
         None in q and len(q) > 1 for q in through_cache
     )
@@ -186,12 +194,22 @@ def print_counts(drawn, counts, rules):
 # ---- the program
 
 
+def positive(text):
+    """A number above 0."""
+    number = int(text)
+    if number < 1:
+        raise ValueError
+    return number
+
+
 def arguments():
     parser = argparse.ArgumentParser(description=__doc__.splitlines()[0])
-    parser.add_argument("program", nargs="?", default=PROGRAM, help="the program `replay`, as it was built")
-    parser.add_argument("--count", type=int, default=200, help="how many traces are drawn")
+    program_help = "the program `replay`; that of PROGRAM, or ./replay, where it isn't given"
+    parser.add_argument("program", nargs="?", default=PROGRAM, help=program_help)
+    parser.add_argument("--count", type=positive, default=200, help="how many traces are drawn")
     parser.add_argument("--seed", type=int, default=0, help="where the drawing begins")
-    parser.add_argument("--only", type=int, help="runs the trace of this number alone, and prints it")
+    only_help = "runs the trace of this number alone, and prints it"
+    parser.add_argument("--only", type=int, help=only_help)
     parser.add_argument("--orders-only", action="store_true", help="compares the orders alone")
     return parser.parse_args()
 
@@ -201,10 +219,16 @@ def judged(task):
     options, number = task
     trace, heaps = draw(random.Random(f"{options.seed}/{number}"))
     counts, rules = Counter(), Counter()
-    found = difference(options.program, trace, heaps, not options.orders_only)
+    reading = read(trace, heaps)
+    found = difference(options.program, trace, heaps, None if options.orders_only else reading)
     if found is None:
-        count_trace(read(trace, heaps), counts, rules)
+        count_trace(reading, counts, rules)
     return found, counts, rules
+
+
+def ignore_interrupts():
+    """Leaves it to the first process to end the others."""
+    signal.signal(signal.SIGINT, signal.SIG_IGN)
 
 
 def print_difference(options, number, found):
@@ -220,7 +244,7 @@ def run_all(options, numbers):
     counts, rules = Counter(), Counter()
     progress = Progress(len(numbers))
     tasks = [(options, number) for number in numbers]
-    with multiprocessing.Pool(min(processors(), len(tasks))) as pool:
+    with multiprocessing.Pool(min(processors(), len(tasks)), ignore_interrupts) as pool:
         for done, (found, more, broken) in enumerate(pool.imap(judged, tasks)):
             progress.note(done)
             if found is not None:
@@ -242,7 +266,11 @@ def main():
     if options.only is not None:
         trace, heaps = draw(random.Random(f"{options.seed}/{options.only}"))
         print(json.dumps(trace), heaps)
-    passed, failed = run_all(options, numbers)
+    try:
+        build(options.program)
+        passed, failed = run_all(options, numbers)
+    except KeyboardInterrupt:
+        return 130
     print(last_line(passed, failed))
     return 1 if failed else 0
 

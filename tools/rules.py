@@ -36,8 +36,8 @@ def asked(point):
     if point.kind in ("wait", "signal"):
         return [(content[0], "semaphore")]
     kinds = {"set": "event", "await": "event", "free": "memory", "drop_pool": "pool"}
-    kinds |= dict.fromkeys(("map", "unmap", "read", "write", "flush", "invalidate"), "buffer")
-    kinds |= {"destroy": "resource"}
+    kinds.update(dict.fromkeys(("map", "unmap", "read", "write", "flush", "invalidate"), "buffer"))
+    kinds["destroy"] = "resource"
     if point.kind == "command" and content[0] == "barrier":
         elements = content[2] + content[3]
         return [(element[6], "image" if is_on_image(element) else "buffer") for element in elements]
