@@ -15,7 +15,8 @@ import threading
 
 sys.dont_write_bytecode = True
 
-from harness import EXPLAIN, SECONDS, TOP, Answer, Test, answered, compared, difference, main, run, shown
+from harness import EXPLAIN, SECONDS, TOP, Answer, Test
+from harness import answered, compared, difference, main, run, shown
 
 REFUSED = 6
 MORE = "\nFor more information, try '--help'.\n"
@@ -92,9 +93,8 @@ def several_tests():
         objects = answered("".join(named_object(name) for name in names), status)
         yield compared(f"explain --json {' '.join(names)}", objects, [EXPLAIN, "--json", *files])
     both = listed(ACCEPTED, BROKEN).replace(file_of(BROKEN), "-")
-    yield compared(
-        "explain FILE - < FILE", answered(both, 1), [EXPLAIN, file_of(ACCEPTED), "-"], text_of(BROKEN)
-    )
+    command = [EXPLAIN, file_of(ACCEPTED), "-"]
+    yield compared("explain FILE - < FILE", answered(both, 1), command, text_of(BROKEN))
     yield Test("explain --repaired FILE FILE", judge_several_repaired)
 
 
@@ -124,7 +124,8 @@ def judge_unreadable(path, before, output):
     is_one_line = answer.error.startswith(begins) and answer.error.count(b"\n") == 1
     if (answer.output, answer.status, is_one_line) == (output.encode(), 5, True):
         return None
-    return f"wanted: status 5, output {output!r}, and a line on standard error: {shown(begins)}..\n  came:   {answer}"
+    wanted = f"status 5, output {output!r}, and a line on standard error: {shown(begins)}.."
+    return f"wanted: {wanted}\n  came:   {answer}"
 
 
 def judge_unread_repair():
@@ -188,7 +189,8 @@ def judge_refused(arguments, begins):
     is_said = answer.error.startswith(begins.encode()) and answer.error.endswith(MORE.encode())
     if (answer.output, answer.status, is_said) == (b"", REFUSED, True):
         return None
-    return f"wanted: status {REFUSED}, no output, and on standard error: {begins!r}..{MORE!r}\n  came:   {answer}"
+    wanted = f"status {REFUSED}, no output, and on standard error: {begins!r}..{MORE!r}"
+    return f"wanted: {wanted}\n  came:   {answer}"
 
 
 def judge_unexpected(argument):
@@ -198,7 +200,8 @@ def judge_unexpected(argument):
 
 def judge_twice(option):
     """An option that is given twice."""
-    return judge_refused([option, option], f"error: the argument '{option}' cannot be used multiple times\n")
+    text = f"error: the argument '{option}' cannot be used multiple times\n"
+    return judge_refused([option, option], text)
 
 
 def judge_valued(option):
@@ -233,11 +236,11 @@ class Terminal:
 def run_on_terminal(command, data=b"", **changes):
     """What a program shows on a terminal, how it ends, and what it writes to standard error, with changes of
     its environment: a value that is None takes a name away."""
-    environment = {k: v for k, v in {**os.environ, "TERM": "xterm", "NO_COLOR": None, **changes}.items() if v is not None}
+    changed = {**os.environ, "TERM": "xterm", "NO_COLOR": None, **changes}
+    environment = {name: value for name, value in changed.items() if value is not None}
     terminal = Terminal()
-    with subprocess.Popen(
-        command, stdin=subprocess.PIPE, stdout=terminal.slave, stderr=subprocess.PIPE, env=environment
-    ) as program:
+    pipes = {"stdin": subprocess.PIPE, "stdout": terminal.slave, "stderr": subprocess.PIPE}
+    with subprocess.Popen(command, env=environment, **pipes) as program:
         os.close(terminal.slave)
         late = threading.Timer(SECONDS, program.kill)
         late.start()
@@ -262,8 +265,12 @@ def terminal_tests():
                     answered(said_of(n), s), run_on_terminal([EXPLAIN], text_of(n), **c)
                 ),
             )
-    yield Test("explain --json on a terminal", lambda: judge_plain(["--json"], "explained.json", 1))
-    yield Test("explain --repaired on a terminal", lambda: judge_plain(["--repaired"], "repaired.json", 0))
+    plain = (("--json", "explained.json", 1), ("--repaired", "repaired.json", 0))
+    for option, ending, status in plain:
+        yield Test(
+            f"explain {option} on a terminal",
+            lambda o=option, e=ending, s=status: judge_plain([o], e, s),
+        )
     yield Test("explain of a trace that is typed", lambda: judge_typed([]))
     yield Test("explain - of a trace that is typed", lambda: judge_typed(["-"]))
     yield Test("explain FILE with a terminal as input", judge_untyped)
@@ -301,7 +308,8 @@ def judge_typed(arguments):
     said = answer.error.count(b"\n") == 1 and b"standard input" in answer.error
     if answer.status == 0 and answer.output.startswith(b"accepted\n") and said:
         return None
-    return f"wanted: status 0, accepted, and a line about standard input on standard error\n  came:   {answer}"
+    wanted = "status 0, accepted, and a line about standard input on standard error"
+    return f"wanted: {wanted}\n  came:   {answer}"
 
 
 def judge_untyped():
@@ -309,16 +317,15 @@ def judge_untyped():
     return difference(answered(said_of(BROKEN), 1), typed([file_of(BROKEN)], b""))
 
 
+def all_tests():
+    """All of them."""
+    yield from file_tests()
+    yield from several_tests()
+    yield from unreadable_tests()
+    yield from help_tests()
+    yield from refused_tests()
+    yield from terminal_tests()
+
+
 if __name__ == "__main__":
-    sys.exit(
-        main(
-            [
-                *file_tests(),
-                *several_tests(),
-                *unreadable_tests(),
-                *help_tests(),
-                *refused_tests(),
-                *terminal_tests(),
-            ]
-        )
-    )
+    sys.exit(main(all_tests(), [EXPLAIN]))

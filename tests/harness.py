@@ -131,11 +131,10 @@ def outcomes(tests):
                 future.cancel()
 
 
-def build_programs():
-    """Runs each program that isn't named in the environment once, which may build it."""
-    for name, command in (("PROGRAM", PROGRAM), ("EXPLAIN", EXPLAIN)):
-        if not os.environ.get(name):
-            subprocess.run([command], input=b"[]", stdout=subprocess.DEVNULL, check=False)
+def build(program):
+    """Runs a program at the top once, which may build it."""
+    if os.path.dirname(program) == str(TOP):
+        subprocess.run([program], input=b"[]", stdout=subprocess.DEVNULL, check=False)
 
 
 def last_line(passed, failed, skipped=0):
@@ -143,10 +142,19 @@ def last_line(passed, failed, skipped=0):
     return f"{passed} passed, {failed} failed" + (f", {skipped} skipped" if skipped else "")
 
 
-def main(tests):
-    """Runs the tests, prints what differs, and answers the exit status."""
+def main(tests, programs=(PROGRAM, EXPLAIN)):
+    """Runs the tests, which need these programs, prints what differs, and answers the exit status."""
     tests = list(tests)
-    build_programs()
+    try:
+        for program in programs:
+            build(program)
+        return judged(tests)
+    except KeyboardInterrupt:
+        return 130
+
+
+def judged(tests):
+    """The same, once the programs are there."""
     passed = failed = skipped = 0
     for test, (found, why) in zip(tests, outcomes(tests)):
         if why is not None:

@@ -124,15 +124,17 @@ def refused_tests():
     yield refused(["--", "more"], f"error: unexpected argument 'more' found\n{USAGE}{MORE}")
     for option in ("--seed", "--heap0", "--heap1"):
         yield refused([option, "-1"], f"error: unexpected argument '-1' found\n{USAGE}{MORE}")
-    for arguments in ([b"\xff"], [b"--order=\xff"], [b"--seed=\xe2\x82"], ["--order", b"first\xff"]):
-        yield refused(arguments, "an argument is not UTF-8\n")
+    for argument in (b"\xff", b"--order=\xff", b"--seed=\xe2\x82"):
+        yield refused([argument], "an argument is not UTF-8\n")
+    yield refused(["--order", b"first\xff"], "an argument is not UTF-8\n")
 
 
 def help_tests():
     """The help, by itself, and before and behind what is good and bad."""
     for arguments in (["--help"], ["-h"], ["--order", "last", "--help"], ["--help", "--nothing"]):
         yield refused(arguments, HELP)
-    yield refused(["--nothing", "--help"], f"error: unexpected argument '--nothing' found\n{USAGE}{MORE}")
+    unexpected = f"error: unexpected argument '--nothing' found\n{USAGE}{MORE}"
+    yield refused(["--nothing", "--help"], unexpected)
 
 
 def objects(memory_type, *sizes):
@@ -149,7 +151,8 @@ def heap_tests():
             stop = answered("stopped 1 NO_ROOM\n", 3)
             yield replayed(option, stop, objects(heap, size, 1))
             yield replayed(option, stop, objects(1 - heap, 4_194_304, 1))
-        yield replayed([f"--heap{heap}", "65536"], answered("stopped 0 NO_ROOM\n", 3), objects(heap, 65_537))
+        small = [f"--heap{heap}", "65536"]
+        yield replayed(small, answered("stopped 0 NO_ROOM\n", 3), objects(heap, 65_537))
         yield replayed([], answered("stopped 1 NO_ROOM\n", 3), objects(heap, 4_194_304, 1))
     both = ["--heap0", "65536", "--heap1", "131072"]
     yield replayed(both, answered("stopped 1 NO_ROOM\n", 3), objects(0, 65_536, 1))
@@ -158,4 +161,4 @@ def heap_tests():
 
 
 if __name__ == "__main__":
-    sys.exit(main([*taken_tests(), *refused_tests(), *help_tests(), *heap_tests()]))
+    sys.exit(main([*taken_tests(), *refused_tests(), *help_tests(), *heap_tests()], [PROGRAM]))

@@ -22,7 +22,6 @@ from harness import answered, compared, difference, main, run
 
 MOST_BYTES = 16_777_216
 MOST_READS = 1_048_576
-MIB = 1_048_576
 PROGRAMS = [("replay", PROGRAM), ("explain", EXPLAIN)]
 READ_FAILED = answered("", 5, "read failed\n")
 TOO_LONG = answered("", 5, "too long\n")
@@ -31,9 +30,11 @@ WRITE_FAILED = answered("", 5, "write failed after 0 bytes\n")
 
 TRACE = (TOP / "examples" / "first_upload.json").read_bytes()
 ENDINGS = {"replay": "expected", "explain": "explained"}
-# What each program answers to the trace, and to one without entries.
-ANSWERS = {name: answered((TOP / "examples" / f"first_upload.{ending}").read_text(encoding="utf-8"))
-           for name, ending in ENDINGS.items()}
+# What each program answers to the trace.
+ANSWERS = {
+    name: answered((TOP / "examples" / f"first_upload.{ending}").read_text(encoding="utf-8"))
+    for name, ending in ENDINGS.items()
+}
 
 
 # A trace of which each program writes more than a pipe holds: as `replay` reads it, and as `explain --repaired`
@@ -61,24 +62,29 @@ def input_tests(name, program):
     """Inputs that can't be read, have nothing, or are as long as may be."""
     whole = ANSWERS[name]
     yield compared(f"{name}: closed input", READ_FAILED, through_shell("<&-", program))
-    yield Test(f"{name}: a directory as input", lambda: judge_opened(program, READ_FAILED, "/", os.O_RDONLY))
-    yield Test(
-        f"{name}: an input that is open for writing alone",
-        lambda: judge_opened(program, READ_FAILED, os.devnull, os.O_WRONLY),
-    )
+    for what, wanted, path, mode in (
+        ("a directory as input", READ_FAILED, "/", os.O_RDONLY),
+        ("an input that is open for writing alone", READ_FAILED, os.devnull, os.O_WRONLY),
+        ("an input without end", TOO_LONG, "/dev/zero", os.O_RDONLY),
+    ):
+        yield Test(
+            f"{name}: {what}", lambda w=wanted, p=path, m=mode: judge_opened(program, w, p, m)
+        )
     yield Test(f"{name}: an input without bytes", lambda: judge_empty(name, program))
     yield Test(f"{name}: a file as input", lambda: judge_file(program, whole, TRACE))
     long = TRACE.ljust(MOST_BYTES, b" ")
     yield compared(f"{name}: 16777216 bytes through a pipe", whole, [program], long)
     yield Test(f"{name}: a file of 16777216 bytes", lambda: judge_file(program, whole, long))
-    yield compared(f"{name}: 16777217 bytes through a pipe", TOO_LONG, [program], long + b" ")
-    yield Test(f"{name}: a file of 16777217 bytes", lambda: judge_file(program, TOO_LONG, long + b" "))
-    yield Test(f"{name}: an input without end", lambda: judge_opened(program, TOO_LONG, "/dev/zero", os.O_RDONLY))
+    longer = long + b" "
+    yield compared(f"{name}: 16777217 bytes through a pipe", TOO_LONG, [program], longer)
+    yield Test(f"{name}: a file of 16777217 bytes", lambda: judge_file(program, TOO_LONG, longer))
     yield Test(f"{name}: a slow writer, byte by byte", lambda: judge_slow(program, whole))
-    yield Test(
-        f"{name}: an end at read 1048576", lambda: judge_messages(program, whole, MOST_READS - 1)
-    )
-    yield Test(f"{name}: no end at read 1048576", lambda: judge_messages(program, TOO_LONG, MOST_READS))
+    ends = (("an end", whole, MOST_READS - 1), ("no end", TOO_LONG, MOST_READS))
+    for what, wanted, count in ends:
+        yield Test(
+            f"{name}: {what} at read 1048576",
+            lambda w=wanted, c=count: judge_messages(program, w, c),
+        )
 
 
 def judge_opened(program, wanted, path, mode):
@@ -183,7 +189,9 @@ def output_tests(name, program):
     )
     for closed in ("2>&-", "2>/dev/full"):
         yield compared(
-            f"{name}: a closed input, and {closed}", answered("", 5), through_shell(f"<&- {closed}", program)
+            f"{name}: a closed input, and {closed}",
+            answered("", 5),
+            through_shell(f"<&- {closed}", program),
         )
         yield compared(
             f"{name}: an unknown option, and {closed}",
@@ -192,26 +200,29 @@ def output_tests(name, program):
             TRACE,
         )
         yield compared(
-            f"{name}: a closed output, and {closed}", answered("", 5), through_shell(f">&- {closed}", program), TRACE
+            f"{name}: a closed output, and {closed}",
+            answered("", 5),
+            through_shell(f">&- {closed}", program),
+            TRACE,
         )
 
 
 def replay_tests():
     """Where nothing is to be written, no write fails; what is refused or no trace has its own status."""
-    yield compared("replay: closed output, and nothing to write", answered(), through_shell(">&-", PROGRAM), b"[]")
-    yield compared(
-        "replay: full output, and nothing to write", answered(), through_shell(">/dev/full", PROGRAM), b"[]"
-    )
     broken = (TOP / "examples" / "missing_dependency.json").read_bytes()
     full_heap = (TOP / "examples" / "full_heap.json").read_bytes()
-    for trace, what in ((broken, "a refusal"), (full_heap, "a stop")):
-        yield compared(f"replay: full output, and {what}", WRITE_FAILED, through_shell(">/dev/full", PROGRAM), trace)
-    for closed in (">&-", ">/dev/full"):
-        yield compared(
-            f"replay: no trace, and {closed}", answered("", 2, "no trace\n"), through_shell(closed, PROGRAM), b"[["
-        )
-    for closed in ("2>&-", "2>/dev/full"):
-        yield compared(f"replay: no trace, and {closed}", answered("", 2), through_shell(closed, PROGRAM), b"[[")
+    for redirection in (">&-", ">/dev/full"):
+        command = through_shell(redirection, PROGRAM)
+        for what, wanted, text in (
+            ("nothing to write", answered(), b"[]"),
+            ("a refusal", WRITE_FAILED, broken),
+            ("a stop", WRITE_FAILED, full_heap),
+            ("no trace", answered("", 2, "no trace\n"), b"[["),
+        ):
+            yield compared(f"replay: {what}, and {redirection}", wanted, command, text)
+    for redirection in ("2>&-", "2>/dev/full"):
+        command = through_shell(redirection, PROGRAM)
+        yield compared(f"replay: no trace, and {redirection}", answered("", 2), command, b"[[")
 
 
 def judge_output(program, path, mode):
@@ -238,7 +249,8 @@ def judge_early_end(command, whole, front=10):
     with tempfile.TemporaryFile() as file:
         file.write(LONG)
         file.seek(0)
-        with subprocess.Popen(command, stdin=file, stdout=subprocess.PIPE, stderr=subprocess.PIPE) as program:
+        pipes = {"stdin": file, "stdout": subprocess.PIPE, "stderr": subprocess.PIPE}
+        with subprocess.Popen(command, **pipes) as program:
             late = threading.Timer(SECONDS, program.kill)
             late.start()
             begins = program.stdout.read(front)
@@ -247,10 +259,11 @@ def judge_early_end(command, whole, front=10):
             program.wait()
             late.cancel()
     said = re.fullmatch(rb"write failed after (\d+) bytes\n", error)
-    if said and front <= int(said[1]) < len(whole) and begins == whole[:front] and program.returncode == 5:
+    is_front = begins == whole[:front]
+    if is_front and program.returncode == 5 and said and front <= int(said[1]) < len(whole):
         return None
-    came = Answer(begins, program.returncode, error)
-    return f"wanted: status 5, a front of the output, and how long it is on standard error\n  came:   {came}"
+    wanted = "status 5, a front of the output, and on standard error how much was written"
+    return f"wanted: {wanted}\n  came:   {Answer(begins, program.returncode, error)}"
 
 
 # ---- little memory
@@ -279,8 +292,10 @@ def room_needed(program):
 def memory_tests(name, program):
     """Of what needs more memory than there is nothing is written, and it is said."""
     entries = b",".join(b'["semaphore",%d,0]' % k for k in range(120_000))
-    for what, text in (("blanks", TRACE.ljust(MOST_BYTES, b" ")), ("entries", b"[" + entries + b"]")):
-        yield Test(f"{name}: little memory for many {what}", lambda t=text: judge_little(program, t))
+    texts = {"blanks": TRACE.ljust(MOST_BYTES, b" "), "entries": b"[" + entries + b"]"}
+    for what, text in texts.items():
+        title = f"{name}: little memory for many {what}"
+        yield Test(title, lambda t=text: judge_little(program, t))
     yield Test(f"{name}: just enough memory to start", lambda: judge_start(program, ANSWERS[name]))
 
 
@@ -313,8 +328,11 @@ def all_tests():
     word = sys.argv[1] if len(sys.argv) > 1 else ""
     tests = []
     for name, program in PROGRAMS:
-        tests += [*input_tests(name, program), *output_tests(name, program), *memory_tests(name, program)]
-    return [test for test in tests + [*replay_tests()] if word in test.name]
+        tests += input_tests(name, program)
+        tests += output_tests(name, program)
+        tests += memory_tests(name, program)
+    tests += replay_tests()
+    return [test for test in tests if word in test.name]
 
 
 if __name__ == "__main__":

@@ -115,10 +115,9 @@ def example_tests():
     for expected in sorted((TOP / "examples").glob("*.expected")):
         status = expected.with_suffix(".status")
         number = int(status.read_text(encoding="utf-8")) if status.exists() else REPLAYED
+        answer = answered(expected.read_text(encoding="utf-8"), number)
         text = expected.with_suffix(".json").read_bytes()
-        yield from tests_of(
-            f"examples/{expected.stem}", text, answered(expected.read_text(encoding="utf-8"), number)
-        )
+        yield from tests_of(f"examples/{expected.stem}", text, answer)
 
 
 def judge_alike(text):
