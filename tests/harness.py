@@ -48,7 +48,7 @@ class Skipped(Exception):
 def shown(text):
     """Bytes as they are shown, without what is too long."""
     rest = f" and {len(text) - SHOWN} bytes" if len(text) > SHOWN else ""
-    return f"{text[:SHOWN].decode(errors='backslashreplace')!r}{rest}"
+    return f"{text[:SHOWN].decode(errors='backslashreplace')!a}{rest}"
 
 
 def answered(output="", status=0, error=""):
