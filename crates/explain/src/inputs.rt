@@ -1,4 +1,7 @@
+ghost use Rattle.std.specs.Prelude.{◌≡◌, max};
+
 use crate::exit::exit_status;
+use crate::options::STANDARD_INPUT;
 use crate::terminals::{Terminals, allows_colours};
 use std::fs::{File, OpenFile};
 use std::io;
@@ -7,9 +10,6 @@ use std::rt::{Env, Files};
 use vk_console::{complain, error_status};
 use vk_explain::{Presentation, Wanted, run};
 use vk_trace::{RunError, Watched};
-
-/// The name that stands for standard input.
-const STANDARD_INPUT: &str = "-";
 
 /// What is said where standard input is a terminal.
 const READING: &str = "reading a trace from standard input";
@@ -26,7 +26,9 @@ struct Course {
 }
 
 impl Course {
-    fn after(self, status: u8, is_written: bool, is_broken: bool) -> Course {
+    fn after(self, status: u8, is_written: bool, is_broken: bool) -> Course
+        ensures { result.status ≡ max self.status status }
+    {
         Course {
             status: self.status.max(status),
             is_first: self.is_first && !is_written,
@@ -35,8 +37,7 @@ impl Course {
     }
 }
 
-/// Explains the traces of some files one after another, or that of standard input where there is none.
-/// Answers the greatest of their exit statuses.
+/// Explains the traces of some files one after another. Answers the greatest of their exit statuses.
 pub fn explain_all<R: Env + Files + Input + Print + Eprint + AllocGlobal>(
     rt: &R,
     wanted: Wanted,
@@ -49,14 +50,6 @@ pub fn explain_all<R: Env + Files + Input + Print + Eprint + AllocGlobal>(
         is_first: true,
         is_broken: false,
     };
-    if files.is_empty() {
-        let presentation = Presentation {
-            name: None,
-            is_first: true,
-            is_coloured,
-        };
-        return explain_input(rt, wanted, &presentation, course, terminals).status;
-    }
     for file in files {
         let presentation = Presentation {
             name: if files.len() > 1 { Some(*file) } else { None },

@@ -9,11 +9,14 @@ use vk_explain::{Form, Wanted};
 pub struct Options<'a> {
     /// What is asked of each trace.
     pub wanted: Wanted,
-    /// The files of the traces, in this order; none where none is named.
+    /// The files of the traces, in this order; standard input where none is named.
     pub files: Vec<&'a str>,
 }
 
-/// What the help says of a text after its options.
+/// The name of a file that stands for standard input.
+pub const STANDARD_INPUT: &str = "-";
+
+/// What the help says after the options.
 const STATUSES: &str = "\
 Exit status: 0 if each trace is accepted, 1 if one breaks a rule, 2 if an input isn't a valid trace,
 4 if memory runs out, 5 if a file can't be read or the output can't be written, 6 if the command line
@@ -71,8 +74,12 @@ fn wanted_by(matches: &ArgMatches<'_>) -> Wanted {
 }
 
 fn files_of<'a>(alloc: Global, matches: &ArgMatches<'a>) -> Result<Vec<&'a str>, AllocError> {
-    match matches.get_strs("file") {
-        Some(files) => files.to_vec(alloc),
-        None => Ok(Vec::new(alloc)),
+    let mut files = Vec::new(alloc);
+    if let Some(named) = matches.get_strs("file") {
+        files.extend_from_slice(named)?;
     }
+    if files.is_empty() {
+        files.push(STANDARD_INPUT)?;
+    }
+    Ok(files)
 }
