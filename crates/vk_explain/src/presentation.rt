@@ -1,4 +1,4 @@
-ghost use Rattle.std.specs.Prelude.{◌≡◌, IfOk, option_map};
+ghost use Rattle.std.specs.Prelude.{◌≡◌, ◌++◌, IfOk, codes, drop, option_map};
 ghost use Rattle.vk_explain.specs.Presented.{heading_of, AreLines, IsNamed, IsPresented};
 ghost use Rattle.vk_explain.specs.declared.forms.Form.TheVariants.{Text};
 ghost use Rattle.vk_explain.specs.declared.forms.Wanted.TheVariants.{Explained};
@@ -79,16 +79,39 @@ fn lines_of(alloc: Global, text: &[u8], is_coloured: bool) -> Result<Vec<u8>, Al
 fn with_name(alloc: Global, text: &[u8], name: Option<&str>) -> Result<Vec<u8>, AllocError>
     ensures { IfOk result (λ shown. IsNamed (option_map (λ s. s.now) name.entry) text.now shown.items) }
 {
-    let Some(name) = name else {
-        return text.to_vec(alloc);
-    };
+    match name {
+        Some(name) => {
+            let quoted = quoted(alloc, name)?;
+            with_member(alloc, text, quoted.as_bytes())
+        }
+        None => text.to_vec(alloc),
+    }
+}
+
+/// A name as a string of JSON.
+fn quoted(alloc: Global, name: &str) -> Result<String, AllocError> {
     let mut quoted = String::new(alloc);
     push_quoted(alloc, &mut quoted, String::from_str(alloc, name)?)?;
+    Ok(quoted)
+}
+
+/// An object with a value as its first member `file`.
+fn with_member(alloc: Global, text: &[u8], value: &[u8]) -> Result<Vec<u8>, AllocError>
+    ensures { IfOk result (λ shown. shown.items ≡ codes "{\"file\":" ++ (value.now ++ (codes "," ++ drop 1 text.now))) }
+{
     let mut all = b"{\"file\":".to_vec(alloc)?;
-    all.extend_from_slice(quoted.as_bytes())?;
-    all.push(b',')?;
-    if let Some((_, rest)) = text.split_first() {
-        all.extend_from_slice(rest)?;
-    }
+    all.extend_from_slice(value)?;
+    all.extend_from_slice(b",")?;
+    all.extend_from_slice(without_first(text))?;
     Ok(all)
+}
+
+/// A text without its first byte.
+fn without_first(text: &[u8]) -> &[u8]
+    ensures { result.now ≡ drop 1 text.now }
+{
+    match text.split_first() {
+        Some((_, rest)) => rest,
+        None => text,
+    }
 }
