@@ -7,10 +7,10 @@ alone. Blocks are counted from 0, and this number is the index of a call in the 
 
 import gzip
 import struct
-from typing import Dict, List, NamedTuple
+from typing import Dict, List, NamedTuple, Optional
 
 HEAD, OPTION, BLOCK = struct.Struct("<4s3I"), struct.Struct("<2I"), struct.Struct("<QI")
-META, FILL, CALL = struct.Struct("<I"), struct.Struct("<IQQQQ"), struct.Struct("<IQ")
+META, FILL, CALL = struct.Struct("<I"), struct.Struct("<IQQqQ"), struct.Struct("<IQ")
 SIZE = struct.Struct("<Q")
 
 COMPRESSED = 0x80000000
@@ -37,10 +37,12 @@ class Fill(NamedTuple):
 
 
 class Blocks(NamedTuple):
-    """What is read of a capture: the host's writes, and the bytes of each vkCmdUpdateBuffer by its index."""
+    """What is read of a capture: the host's writes, the bytes of each vkCmdUpdateBuffer by its index, and the block
+    that isn't whole, where the program was ended before the capture."""
 
     fills: List[Fill]
     updates: Dict[int, bytes]
+    ends_within: Optional[str]
 
 
 def file_bytes(path):
@@ -81,9 +83,7 @@ def unpacked_lz4(data, size):
         if distance == 0 or start < 0:
             raise ValueError("a distance out of its bytes")
         chunk = made[start : start + length]
-        while len(chunk) < length:
-            chunk += chunk
-        made += chunk[:length]
+        made += (chunk * (length // len(chunk) + 1))[:length]
     if len(made) != size:
         raise ValueError(f"{len(made)} bytes in place of {size}")
     return bytes(made)
@@ -98,6 +98,7 @@ class Reader:
         self.compression = 0
         self.index = 0
         self.place = 0
+        self.ends_within = None
 
     def bad(self, text):
         """What is wrong with the block."""
@@ -120,12 +121,11 @@ class Reader:
     def each(self):
         """Each block: its kind without the bit of compression, whether it has it, and its bytes."""
         while self.place < len(self.data):
-            if len(self.data) - self.place < BLOCK.size:
-                raise self.bad("the capture ends in the head of a block")
-            size, kind = BLOCK.unpack_from(self.data, self.place)
             first = self.place + BLOCK.size
-            if size > len(self.data) - first:
-                raise self.bad(f"the capture ends in a block of {size} bytes")
+            size, kind = BLOCK.unpack_from(self.data, self.place) if first <= len(self.data) else (0, 0)
+            if first + size > len(self.data):
+                self.ends_within = f"block {self.index}, byte {self.place}"
+                return
             if not 0 < kind & ~COMPRESSED <= LAST_KIND:
                 raise self.bad(f"a block of the unknown kind 0x{kind:x}")
             yield kind & ~COMPRESSED, bool(kind & COMPRESSED), memoryview(self.data)[first : first + size]
@@ -172,11 +172,11 @@ def read_blocks(path):
     """What is read of a capture."""
     reader = Reader(path, file_bytes(path))
     reader.start()
-    blocks = Blocks([], {})
+    fills, updates = [], {}
     for kind, is_compressed, block in reader.each():
         if kind == META_DATA and len(block) >= 4 and META.unpack_from(block)[0] == FILL_MEMORY:
-            blocks.fills.append(reader.fill(block, is_compressed))
+            fills.append(reader.fill(block, is_compressed))
         elif kind == FUNCTION_CALL and len(block) >= CALL.size:
             if CALL.unpack_from(block)[0] == UPDATE_BUFFER:
-                blocks.updates[reader.index] = reader.update(block, is_compressed)
-    return blocks
+                updates[reader.index] = reader.update(block, is_compressed)
+    return Blocks(fills, updates, reader.ends_within)

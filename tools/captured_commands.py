@@ -194,7 +194,7 @@ def unjudged(world, call):
         world.write_attachments(call)
         return []
     for handle in targets(call.args):
-        world.make_opaque(world.resource(handle), f"{call.name} writes it", call)
+        world.make_opaque(world.resource(handle), f"{call.name} writes it")
     if not call.name.startswith(NAMED):
         world.write_all(call)
     return []
@@ -202,6 +202,7 @@ def unjudged(world, call):
 
 def translated(world, call, context):
     """The commands of the trace for one of the program, at its submit."""
+    world.command = call
     handler = COMMANDS.get(call.name)
     if handler is None:
         return unjudged(world, call)

@@ -9,6 +9,7 @@ does where its value changes.
 
 import re
 
+from captured_calls import Call
 from captured_masks import WHOLE
 from captured_state import MOST_MEMORY, Memory
 
@@ -21,6 +22,7 @@ LOCAL, VISIBLE, COHERENT = 1, 2, 4
 COHERENT_TYPE, CACHED_TYPE = 1, 2
 
 HOST_ACCESS = "the host may access the image, which a trace can't say"
+EARLIER = "the host wrote these bytes before it"
 NO_BLOCKS = ("what the host wrote to mapped memory isn't in the JSON: until a command writes them, all mapped"
              " bytes count as written by the host, as zeros")
 IMPORTED = "the host wrote all of the imported memory that commands read, as zeros, before the first of them"
@@ -44,16 +46,17 @@ def chain(info):
 
 
 def memory_types(world, call):
-    """Notes the memory types of the device."""
+    """Notes the memory types of a physical device."""
     properties = call.args["pMemoryProperties"]
     properties = properties.get("memoryProperties", properties)
-    world.memory_types = dict(enumerate(part["propertyFlags"] for part in properties["memoryTypes"]))
+    flags = dict(enumerate(part["propertyFlags"] for part in properties["memoryTypes"]))
+    world.physical[call.args["physicalDevice"]].types.update(flags)
 
 
 def allocate(world, call):
     """A memory object."""
     info = call.args["pAllocateInfo"]
-    flags = world.memory_types.get(info["memoryTypeIndex"])
+    flags = world.device(call.args["device"]).types.get(info["memoryTypeIndex"])
     if flags is None:
         world.summary.note("memory of a type whose properties the program didn't ask for is host visible")
         flags = VISIBLE | COHERENT
@@ -65,13 +68,29 @@ def allocate(world, call):
     world.memories[made.handle] = made
 
 
+def place(world, part, memory, offset):
+    """Binds a resource; what shares bytes with another one, or comes from outside, isn't judged."""
+    part.memory, part.offset = memory, offset
+    if memory.is_foreign:
+        world.make_opaque(part, "its memory is shared with what is outside")
+    for other in memory.places.add(offset, offset + max(part.extent, 1), part):
+        world.make_opaque(other, f"{world.name(part)} is bound to the same bytes")
+        world.make_opaque(part, f"{world.name(other)} is bound to the same bytes")
+
+
+def export(world, call):
+    """vkGetMemoryFd: a memory object is handed out of Vulkan."""
+    memory = world.memories[call.args["pGetFdInfo"]["memory"]]
+    memory.is_foreign = True
+    for part in memory.places.all():
+        world.make_opaque(part, "its memory is shared with what is outside")
+
+
 def bind_buffer(world, handle, memory_handle, offset):
     """Binds a buffer, which is made in the trace."""
     buffer, memory = world.resources[handle], world.memories[memory_handle]
-    buffer.memory, buffer.offset, buffer.type = memory, offset, memory.type
-    memory.resources.append(buffer)
-    if memory.is_foreign:
-        world.make_opaque(buffer, "its memory is imported from outside")
+    buffer.type = memory.type
+    place(world, buffer, memory, offset)
     if buffer.why is not None:
         return
     if buffer.size > MOST_MEMORY:
@@ -95,16 +114,11 @@ def shadow_of(buffer):
     return buffer.shadow
 
 
-def buffers_of(memory):
-    """The judged buffers in a memory object."""
-    return [part for part in memory.resources if part.kind == "buffer" and part.is_judged]
-
-
 def parts_in(memory, start, end):
     """The judged buffers that a range of a memory object meets, and the range in each."""
-    for buffer in buffers_of(memory):
-        low, high = max(start - buffer.offset, 0), min(end - buffer.offset, buffer.size)
-        if low < high:
+    for buffer in memory.places.meeting(start, end):
+        low, high = max(start - buffer.offset, 0), min(end - buffer.offset, buffer.extent)
+        if low < high and buffer.kind == "buffer" and buffer.is_judged:
             yield buffer, low, high
 
 
@@ -124,8 +138,9 @@ def fill(world, part):
     memory = world.memories.get(part.memory)
     if memory is None:
         return
+    world.call = Call(part.index, "(a write of the host)", {}, None)
     start = part.offset + (memory.mapping[0] if memory.mapping else 0)
-    if not buffers_of(memory):
+    if not memory.places.ranges:
         memory.early.append((start, part.data))
     host_wrote(world, memory, start, part.data)
 
@@ -166,10 +181,10 @@ def ensure_mapped(world, buffer):
         world.emit(["map", buffer.id])
 
 
-def write(world, buffer, start, data):
+def write(world, buffer, start, data, why=None):
     """Adds a write of the host."""
     ensure_mapped(world, buffer)
-    world.emit(["write", buffer.id, start, bytes(data).hex()])
+    world.emit(["write", buffer.id, start, bytes(data).hex()], why)
 
 
 def commands_read(world, buffer, ranges):
@@ -180,9 +195,9 @@ def commands_read(world, buffer, ranges):
     for low, high in ranges:
         for run in WAITING.finditer(bytes(state[low:high])):
             start, end = low + run.start(), low + run.end()
-            write(world, buffer, start, buffer.shadow.value[start:end])
+            write(world, buffer, start, buffer.shadow.value[start:end], EARLIER)
             if run.group()[0] == FLUSHED and buffer.type == CACHED_TYPE:
-                world.emit(["flush", buffer.id, start, end - start])
+                world.emit(["flush", buffer.id, start, end - start], "the host flushed these bytes before it")
             state[start:end] = bytes([IN_TRACE]) * (end - start)
             if buffer.memory.is_imported:
                 world.summary.note(IMPORTED, 0)
@@ -210,7 +225,7 @@ def map_memory(world, call):
     end = memory.size if size == WHOLE else offset + size
     memory.mapping = (offset, end, world.queues.marks())
     memory.is_written = False
-    for part in memory.resources:
+    for part in memory.places.all() if memory.has_linear else []:
         if part.kind == "image" and part.is_linear:
             world.make_opaque(part, HOST_ACCESS)
     for buffer, low, high in parts_in(memory, offset, end):
@@ -284,13 +299,15 @@ def free(world, call):
     """Frees memory: what is bound to it ends."""
     memory = world.memories.pop(call.args["memory"], None)
     if memory is not None:
-        for part in memory.resources:
+        for part in memory.places.all():
             end_resource(world, part)
         memory.mapping = None
 
 
 def end_resource(world, part):
     """A resource ends: the host has read what it does read of it."""
+    if part.memory is not None and not part.is_ended:
+        part.memory.places.remove(part.offset, part.offset + max(part.extent, 1), part)
     if part.kind == "buffer" and part.is_judged and part.type == CACHED_TYPE and part.memory.mapping:
         put_reads(world, part, 0, part.size, "the host reads what commands wrote before its end")
     if part.id is not None and not part.is_ended:

@@ -1,7 +1,7 @@
 """Makes the buffers and images of a captured program in the trace, as far as it can have them."""
 
 from captured_masks import format_of
-from captured_memory import HOST_ACCESS, bind_buffer
+from captured_memory import HOST_ACCESS, bind_buffer, place
 from captured_state import MOST_LAYERS, MOST_MEMORY, MOST_SIDE, Buffer, Image
 
 SPARSE = 7
@@ -32,6 +32,8 @@ def image_fault(info, form):
         return f"its format {info['format']}"
     if info["tiling"] not in ("VK_IMAGE_TILING_OPTIMAL", "VK_IMAGE_TILING_LINEAR"):
         return f"its tiling {info['tiling']}"
+    if info["tiling"] == "VK_IMAGE_TILING_LINEAR" and (info["mipLevels"], info["arrayLayers"]) != (1, 1):
+        return "it is linear, with several levels or layers"
     if max(extent["width"], extent["height"]) > MOST_SIDE or info["arrayLayers"] > MOST_LAYERS:
         return f"its sides or layers are over {MOST_SIDE} or {MOST_LAYERS}"
     if image_bytes(info, form) > MOST_MEMORY:
@@ -66,17 +68,17 @@ def created_image(world, call):
     elif fault:
         world.make_opaque(made, fault)
     else:
-        made.size = image_bytes(info, made.form)
+        made.size = made.extent = image_bytes(info, made.form)
 
 
-def bind_image(world, handle, memory_handle):
+def bind_image(world, handle, memory_handle, offset):
     """Binds an image, which is made in the trace."""
-    image, place = world.resources[handle], world.memories[memory_handle]
-    image.memory = place
-    place.resources.append(image)
-    if place.is_imported or place.is_foreign:
-        world.make_opaque(image, "its memory is imported")
-    elif image.is_linear and place.mapping:
+    image, memory = world.resources[handle], world.memories[memory_handle]
+    place(world, image, memory, offset)
+    memory.has_linear |= image.is_linear
+    if memory.is_imported:
+        world.make_opaque(image, "its memory is imported from the host")
+    elif image.is_linear and memory.mapping:
         world.make_opaque(image, HOST_ACCESS)
     if image.why is not None:
         return
@@ -98,4 +100,13 @@ def bind_images(world, call):
     """vkBindImageMemory, of both generations."""
     for part in call.args.get("pBindInfos", [call.args]):
         if part["image"] in world.resources and part["memory"] in world.memories:
-            bind_image(world, part["image"], part["memory"])
+            bind_image(world, part["image"], part["memory"], part["memoryOffset"])
+
+
+def requirements(world, call):
+    """vkGetBufferMemoryRequirements and vkGetImageMemoryRequirements: how many bytes are bound."""
+    info = call.args.get("pInfo", call.args)
+    needed = call.args["pMemoryRequirements"]
+    part = world.resources.get(info.get("image"))
+    if part is not None:
+        part.extent = needed.get("memoryRequirements", needed)["size"]

@@ -3,6 +3,8 @@
 import json
 from collections import Counter
 
+from captured_places import Places
+
 # Limits of the format.
 MOST_POINTS, MOST_TEXT, MOST_MEMORY = 131072, 16777216, 67108864
 MOST_SIDE, MOST_LAYERS = 4096, 256
@@ -89,6 +91,7 @@ class Resource:
         self.id = None
         self.why = why
         self.memory = None
+        self.offset = self.extent = 0
         self.is_concurrent = False
         self.is_ended = False
 
@@ -110,9 +113,9 @@ class Buffer(Resource):
 
     def __init__(self, handle, call, info):
         super().__init__(handle, call)
-        self.size, self.usage = info["size"], info["usage"]
+        self.size = self.extent = info["size"]
+        self.usage = info["usage"]
         self.is_concurrent = info["sharingMode"] == "VK_SHARING_MODE_CONCURRENT"
-        self.offset = 0
         self.type = 0
         self.is_mapped = False
         self.shadow = None
@@ -143,9 +146,16 @@ class Memory:
     def __init__(self, handle, size, kind, is_visible, is_imported):
         self.handle, self.size, self.type = handle, size, kind
         self.is_visible, self.is_imported = is_visible, is_imported
-        self.resources = []
+        self.places = Places()
         self.early = []
-        self.is_foreign = False
+        self.is_foreign = self.has_linear = False
         # of a mapping: its offset, its end, and how many batches had been submitted
         self.mapping = None
         self.is_written = False
+
+
+class Physical:
+    """A physical device: the flags of its memory types, and which of its families have transfers alone."""
+
+    def __init__(self):
+        self.types, self.families = {}, {}

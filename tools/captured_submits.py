@@ -167,11 +167,12 @@ class Semaphores:
 
 
 def families_of(world, call):
-    """Notes which families have transfers alone."""
+    """Notes which families of a physical device have transfers alone."""
+    families = world.physical[call.args["physicalDevice"]].families
     parts = call.args["pQueueFamilyProperties"] or []
     for number, part in enumerate(parts):
         flags = part.get("queueFamilyProperties", part)["queueFlags"]
-        world.families[number] = 0 if flags & GRAPHICS_OR_COMPUTE else 1
+        families[number] = 0 if flags & GRAPHICS_OR_COMPUTE else 1
 
 
 def commands_of(world, handles):
@@ -223,6 +224,7 @@ def batch_of(world, queue, info):
         made = translated_call(world, call, context)
         commands += made
         origins += [[call.index, call.name]] * len(made)
+    world.command = None
     made_signals = [[queue.semaphore, queue.count, ALL_COMMANDS]]
     for handle, value, mask in signals:
         made_signals += signal_of(world, queue, batch, (handle, value, stages(mask, True)))

@@ -1,9 +1,10 @@
 """All that is known of a captured program."""
 
+from collections import defaultdict
+
 from captured_calls import Bad
 from captured_masks import IGNORED, REMAINING, WHOLE
-from captured_memory import HOST_ACCESS
-from captured_state import Image, Summary, Trace
+from captured_state import Image, Physical, Summary, Trace
 from captured_submits import Queues, Semaphores
 
 # Usages by which commands alone read that the trace doesn't have, and transfers: of buffers all texels,
@@ -11,6 +12,7 @@ from captured_submits import Queues, Semaphores
 READ_ONLY = {"buffer": 0x807D7, "image": 0x7}
 ATTACHMENTS = 0xF0
 HEAP = 4194304
+DEVICES = "families of queues are those of the device that was made last"
 
 
 class World:
@@ -20,13 +22,26 @@ class World:
         self.reads, self.has_blocks = reads, blocks is not None
         self.updates = blocks.updates if blocks else {}
         self.trace, self.summary = Trace(), Summary()
+        if blocks and blocks.ends_within:
+            self.summary.note(f"the program ended within a call: the capture ends within {blocks.ends_within}")
         self.resources, self.memories, self.names = {}, {}, {}
-        self.memory_types, self.families, self.passes = {}, {}, {}
+        self.physical, self.devices, self.families, self.passes = defaultdict(Physical), {}, {}, {}
         self.recordings, self.events, self.event_waits = {}, {}, {}
         self.shared, self.unread, self.writable = set(), {}, {}
-        self.call = None
+        self.call = self.command = None
         self.heap, self.peak = [0, 0], [0, 0]
         self.queues, self.semaphores = Queues(self), Semaphores(self)
+
+    def device(self, handle):
+        """The physical device of a device."""
+        return self.devices.get(handle) or Physical()
+
+    def create_device(self, call):
+        """vkCreateDevice: its families are those that barriers name."""
+        if self.devices:
+            self.summary.note(DEVICES, 0)
+        self.devices[call.args["pDevice"]] = self.physical[call.args["physicalDevice"]]
+        self.families = self.physical[call.args["physicalDevice"]].families
 
     def name(self, resource):
         """A resource in words."""
@@ -49,13 +64,14 @@ class World:
             self.make_opaque(made, "made by a call that isn't judged, as those of a swapchain are")
         return self.resources[handle]
 
-    def make_opaque(self, resource, why, call=None):
-        """From here on no command on a resource is judged."""
+    def make_opaque(self, resource, why):
+        """From here on, which is the command that is taken, or the call, nothing done to a resource is judged."""
         self.writable.pop(resource.handle, None)
         self.unread.pop(resource.handle, None)
         if resource.why is None and not resource.is_ended:
             resource.why = why
-            self.summary.opaque.append(f"{self.name(resource)}, from {call or self.call} on: {why}")
+            place = self.command or self.call
+            self.summary.opaque.append(f"{self.name(resource)}, from {place} on: {why}")
 
     def pass_over(self, resource, why):
         """A resource that no transfer can name isn't in the trace."""
@@ -67,12 +83,12 @@ class World:
         """Commands that aren't judged write attachments."""
         for part in list(self.writable.values()):
             if part.kind == "image" and part.usage & ATTACHMENTS:
-                self.make_opaque(part, f"{call.name} may write it as an attachment", call)
+                self.make_opaque(part, f"{call.name} may write it as an attachment")
 
     def write_all(self, call):
         """Commands that aren't judged may write all that shaders can."""
         for part in list(self.writable.values()):
-            self.make_opaque(part, f"{call.name} may write it", call)
+            self.make_opaque(part, f"{call.name} may write it")
 
     def emit(self, entry, why=None):
         """Adds an entry that stands for the present call."""

@@ -24,7 +24,6 @@ from captured_state import Stop
 import captured_submits as submits
 from captured_world import World, look_ahead
 
-UNREAD = "host reads"
 # What is noted of the program, and stands for nothing in a trace.
 SILENT = ("vkGet", "vkEnumerate", "vkCreate", "vkDestroy", "vkAllocate", "vkFree", "vkUpdateDescriptor",
           "vkReset", "vkEnd", "vkTrim", "vkMerge", "vkSetDebug", "vkDebug", "vkQueueBeginDebug",
@@ -56,6 +55,9 @@ CALLS = {
     "vkGetPhysicalDeviceQueueFamilyProperties2": submits.families_of,
     "vkGetDeviceQueue": lambda world, call: world.queues.name(call),
     "vkGetDeviceQueue2": lambda world, call: world.queues.name(call),
+    "vkGetImageMemoryRequirements": resources.requirements,
+    "vkGetImageMemoryRequirements2": resources.requirements,
+    "vkCreateDevice": lambda world, call: world.create_device(call), "vkGetMemoryFd": memory.export,
     "vkAllocateMemory": memory.allocate, "vkFreeMemory": memory.free,
     "vkMapMemory": memory.map_memory, "vkUnmapMemory": memory.unmap_memory,
     "vkFlushMappedMemoryRanges": memory.flush, "vkInvalidateMappedMemoryRanges": memory.invalidate,
