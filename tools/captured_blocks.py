@@ -15,7 +15,7 @@ SIZE = struct.Struct("<Q")
 
 COMPRESSED = 0x80000000
 # The kinds of blocks: frames, states, meta data, calls, annotations, calls of methods.
-META_DATA, FUNCTION_CALL, LAST_KIND = 3, 4, 6
+STATE_MARKER, META_DATA, FUNCTION_CALL, LAST_KIND = 2, 3, 4, 6
 FILL_MEMORY = 0x10002
 UPDATE_BUFFER = 0x11075
 COMPRESSION = 1
@@ -174,6 +174,9 @@ def read_blocks(path):
     reader.start()
     fills, updates = [], {}
     for kind, is_compressed, block in reader.each():
+        if kind == STATE_MARKER:
+            raise reader.bad("the capture begins within the program, so that what came before isn't known:"
+                             " capture all frames")
         if kind == META_DATA and len(block) >= 4 and META.unpack_from(block)[0] == FILL_MEMORY:
             fills.append(reader.fill(block, is_compressed))
         elif kind == FUNCTION_CALL and len(block) >= CALL.size:

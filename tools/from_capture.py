@@ -6,7 +6,8 @@
 
 docs/CAPTURES.md says how a program is captured, and what is judged of it. This needs Python 3.8 or later, its
 standard library, and `gfxrecon-convert` of Debian's package `gfxreconstruct`, unless a JSON that it made is named.
-The status is 0 where a trace was written, 1 where the input can't be converted, and 2 for a bad command line.
+The status is 0 where a trace was written, 1 where the input can't be converted, 2 for a bad command line, and 3
+where a trace was written that ends before the capture does.
 """
 
 import argparse
@@ -24,6 +25,7 @@ from captured_state import Stop
 import captured_submits as submits
 from captured_world import World, look_ahead
 
+BAD, STOPPED = 1, 3
 # What is noted of the program, and stands for nothing in a trace.
 SILENT = ("vkGet", "vkEnumerate", "vkCreate", "vkDestroy", "vkAllocate", "vkFree", "vkUpdateDescriptor",
           "vkReset", "vkEnd", "vkTrim", "vkMerge", "vkSetDebug", "vkDebug", "vkQueueBeginDebug",
@@ -180,10 +182,10 @@ def parsed():
 
 
 def run(options):
-    """Does what the command line asks for."""
+    """Does what the command line asks for, and answers the status."""
     if options.where is not None:
         print(where(options.where, options.names))
-        return
+        return 0
     calls, blocks = read_capture(options.capture, options.json)
     world = convert(calls, blocks, options.reads)
     for line in world.summary_lines():
@@ -193,20 +195,21 @@ def run(options):
             json.dump(side_file(world, options.capture or options.json), file, indent=0)
             file.write("\n")
     sys.stdout.write(world.trace.text())
+    return STOPPED if world.summary.stopped else 0
 
 
 def main():
     """Runs it, and answers the status."""
     try:
-        run(parsed())
+        status = run(parsed())
         sys.stdout.flush()
+        return status
     except Bad as error:
         print(f"from_capture: {error}", file=sys.stderr)
-        return 1
+        return BAD
     except OSError as error:
         print(f"from_capture: {error}", file=sys.stderr)
-        return 1
-    return 0
+        return BAD
 
 
 if __name__ == "__main__":
