@@ -2,7 +2,7 @@
 
 from captured_barriers import (await_events, barrier, begin_pass, end_pass, set_event, subresources)
 from captured_masks import REMAINING, WHOLE, clear_words, layout
-from captured_memory import commands_read, commands_write
+from captured_host import commands_read, commands_write
 
 NO_UPDATE = "the bytes of vkCmdUpdateBuffer aren't in the JSON, and are taken as zeros"
 CLEARED = "the color of a clear of a format other than UNORM, UINT, SINT and SFLOAT is taken as zeros"
@@ -18,11 +18,13 @@ TARGETS = ("dstImage", "dstBuffer", "image", "buffer")
 
 
 class Context:
-    """Where a command is: the family of its queue in the capture, its batch, and its render pass."""
+    """Where a command is: the family of its queue in the capture, its batch, its render pass, and the fills that
+    stand for what the host wrote, where there is a queue for them."""
 
-    def __init__(self, family, batch):
+    def __init__(self, family, batch, has_stand_in):
         self.family, self.batch = family, batch
-        self.render_pass = None
+        self.render_pass, self.fills = None, []
+        self.has_stand_in = has_stand_in
 
 
 def inner(call):
@@ -34,16 +36,22 @@ def inner(call):
 
 
 def judge_copy(world, call, source, target):
-    """Whether both resources of a copy are judged; where its source isn't, its target is no more."""
+    """Whether both resources of a copy are judged; where one isn't, the copy is left out."""
     for part in (source, target):
         if part.why is None and part.id is None:
             world.make_opaque(part, "no memory is bound to it")
     if source.is_named and target.is_named:
         return True
+    leave(world, call, source, target)
+    return False
+
+
+def leave(world, call, source, target):
+    """Leaves a copy out, which has no commands then: where its source isn't judged, its target is no more."""
     if target.is_named:
         world.make_opaque(target, f"{call.name} writes it from {world.name(source)}, which isn't judged")
     world.summary.left_out[call.name] += 1
-    return False
+    return []
 
 
 def fill_buffer(world, call, context):
@@ -77,7 +85,8 @@ def copy_buffer(world, call, context):
     if not judge_copy(world, call, source, target):
         return []
     regions = [[part["srcOffset"], part["dstOffset"], part["size"]] for part in info["pRegions"]]
-    commands_read(world, source, [(start, start + size) for start, _, size in regions])
+    if not commands_read(world, source, [(start, start + size) for start, _, size in regions], context):
+        return leave(world, call, source, target)
     commands_write(world, target, [(start, start + size) for _, start, size in regions], context.batch)
     return [["copy", source.id, target.id, regions]]
 
@@ -114,8 +123,9 @@ def copy_in(world, call, context):
     if not judge_copy(world, call, buffer, image):
         return []
     regions = [image_region(image, part) for part in info["pRegions"]]
-    for region in regions:
-        commands_read(world, buffer, rows(region, image.form.texel, buffer.size))
+    spans = [span for region in regions for span in rows(region, image.form.texel, buffer.size)]
+    if not commands_read(world, buffer, spans, context):
+        return leave(world, call, buffer, image)
     return [["copy_in", buffer.id, image.id, layout(info["dstImageLayout"]), regions]]
 
 

@@ -1,40 +1,16 @@
-"""Memory of a captured program: what is bound to it, what the host wrote there, and what it is taken to read.
+"""Memory of a captured program: what is bound to it, its mappings, flushes and invalidations."""
 
-A capture has the pages in which the host wrote, and not the bytes. So for each byte of a buffer that the host may
-access one of these is known: it is fresh; it is pending, which is that the capture has a value of it that no command
-has read yet; it is in the trace; or a command has written it, and then what the capture has of it may be what the
-command wrote. A pending byte becomes a write of the host where a command reads it first, and a byte in the trace
-does where its value changes.
-"""
-
-import re
-
-from captured_calls import Call
+from captured_host import (CACHED_TYPE, COHERENT_TYPE, FLUSHED, FRESH, IN_TRACE, PENDING, ensure_mapped,
+                           host_wrote, parts_in, put_reads, shadow_of, unmap)
 from captured_masks import WHOLE
 from captured_state import MOST_MEMORY, Memory
 
-FRESH, IN_TRACE, OF_COMMAND, PENDING, FLUSHED = range(5)
-RUNS = re.compile(rb"[\x00\x03\x04]+|\x01+|\x02+")
-WAITING = re.compile(rb"\x03+|\x04+")
-# Bytes that have changed, with up to three between them that haven't.
-CHANGED = re.compile(rb"[^\x00](?:\x00{0,3}[^\x00])*")
 LOCAL, VISIBLE, COHERENT = 1, 2, 4
-COHERENT_TYPE, CACHED_TYPE = 1, 2
 
 HOST_ACCESS = "the host may access the image, which a trace can't say"
-EARLIER = "the host wrote these bytes before it"
 NO_BLOCKS = ("what the host wrote to mapped memory isn't in the JSON: until a command writes them, all mapped"
              " bytes count as written by the host, as zeros")
-IMPORTED = "the host wrote all of the imported memory that commands read, as zeros, before the first of them"
-MIXED = "what the host wrote over bytes of commands isn't told apart from what these wrote, and is left out"
-
-
-class Shadow:
-    """What is known of the bytes of a buffer."""
-
-    def __init__(self, size):
-        self.value = bytearray(size)
-        self.state = bytearray(size)
+OUTSIDE = "its memory is shared with what is outside"
 
 
 def chain(info):
@@ -72,7 +48,7 @@ def place(world, part, memory, offset):
     """Binds a resource; what shares bytes with another one, or comes from outside, isn't judged."""
     part.memory, part.offset = memory, offset
     if memory.is_foreign:
-        world.make_opaque(part, "its memory is shared with what is outside")
+        world.make_opaque(part, OUTSIDE)
     for other in memory.places.add(offset, offset + max(part.extent, 1), part):
         world.make_opaque(other, f"{world.name(part)} is bound to the same bytes")
         world.make_opaque(part, f"{world.name(other)} is bound to the same bytes")
@@ -83,7 +59,7 @@ def export(world, call):
     memory = world.memories[call.args["pGetFdInfo"]["memory"]]
     memory.is_foreign = True
     for part in memory.places.all():
-        world.make_opaque(part, "its memory is shared with what is outside")
+        world.make_opaque(part, OUTSIDE)
 
 
 def bind_buffer(world, handle, memory_handle, offset):
@@ -105,114 +81,6 @@ def bind_buffer(world, handle, memory_handle, offset):
         shadow_of(buffer).state[:] = bytes([FLUSHED]) * buffer.size
     for start, data in memory.early:
         host_wrote(world, memory, start, data)
-
-
-def shadow_of(buffer):
-    """What is known of the bytes of a buffer."""
-    if buffer.shadow is None:
-        buffer.shadow = Shadow(buffer.size)
-    return buffer.shadow
-
-
-def parts_in(memory, start, end):
-    """The judged buffers that a range of a memory object meets, and the range in each."""
-    for buffer in memory.places.meeting(start, end):
-        low, high = max(start - buffer.offset, 0), min(end - buffer.offset, buffer.extent)
-        if low < high and buffer.kind == "buffer" and buffer.is_judged:
-            yield buffer, low, high
-
-
-# ---- what the host writes
-
-
-def host_wrote(world, memory, start, data):
-    """The capture has bytes of a memory object."""
-    for buffer, low, high in parts_in(memory, start, start + len(data)):
-        first = low + buffer.offset - start
-        if buffer_written(world, buffer, low, data[first : first + high - low]):
-            memory.is_written = True
-
-
-def fill(world, part):
-    """A write that the capture has."""
-    memory = world.memories.get(part.memory)
-    if memory is None:
-        return
-    world.call = Call(part.index, "(a write of the host)", {}, None)
-    start = part.offset + (memory.mapping[0] if memory.mapping else 0)
-    if not memory.places.ranges:
-        memory.early.append((start, part.data))
-    host_wrote(world, memory, start, part.data)
-
-
-def buffer_written(world, buffer, low, data):
-    """The capture has these bytes of a buffer: whether the host wrote some of them."""
-    shadow, is_written = shadow_of(buffer), False
-    for run in RUNS.finditer(bytes(shadow.state[low : low + len(data)])):
-        state, start, end = run.group()[0], low + run.start(), low + run.end()
-        fresh = data[run.start() : run.end()]
-        if state == OF_COMMAND:
-            world.summary.note(MIXED)
-        elif state == IN_TRACE:
-            is_written |= changed(world, buffer, start, fresh)
-        else:
-            is_written = True
-            shadow.state[start:end] = bytes([PENDING]) * (end - start)
-        if state != OF_COMMAND:
-            shadow.value[start:end] = fresh
-    return is_written
-
-
-def changed(world, buffer, start, fresh):
-    """Writes those of the bytes in the trace that have changed."""
-    old = buffer.shadow.value[start : start + len(fresh)]
-    if old == fresh:
-        return False
-    other = int.from_bytes(old, "little") ^ int.from_bytes(fresh, "little")
-    for run in CHANGED.finditer(other.to_bytes(len(fresh), "little")):
-        write(world, buffer, start + run.start(), fresh[run.start() : run.end()])
-    return True
-
-
-def ensure_mapped(world, buffer):
-    """Maps a buffer in the trace, where it isn't."""
-    if not buffer.is_mapped:
-        buffer.is_mapped = True
-        world.emit(["map", buffer.id])
-
-
-def write(world, buffer, start, data, why=None):
-    """Adds a write of the host."""
-    ensure_mapped(world, buffer)
-    world.emit(["write", buffer.id, start, bytes(data).hex()], why)
-
-
-def commands_read(world, buffer, ranges):
-    """Commands of the next submit read these ranges: what is pending there is written."""
-    if buffer.shadow is None:
-        return
-    state = buffer.shadow.state
-    for low, high in ranges:
-        for run in WAITING.finditer(bytes(state[low:high])):
-            start, end = low + run.start(), low + run.end()
-            write(world, buffer, start, buffer.shadow.value[start:end], EARLIER)
-            if run.group()[0] == FLUSHED and buffer.type == CACHED_TYPE:
-                world.emit(["flush", buffer.id, start, end - start], "the host flushed these bytes before it")
-            state[start:end] = bytes([IN_TRACE]) * (end - start)
-            if buffer.memory.is_imported:
-                world.summary.note(IMPORTED, 0)
-
-
-def commands_write(world, buffer, ranges, batch):
-    """Commands of a batch write these ranges."""
-    if not buffer.memory.is_visible:
-        return
-    state = shadow_of(buffer).state
-    for low, high in ranges:
-        state[low:high] = bytes([OF_COMMAND]) * (high - low)
-        if world.reads != "none":
-            buffer.unread.append((batch, low, high))
-            world.unread[buffer.handle] = buffer
 
 
 # ---- maps, flushes and invalidations
@@ -254,13 +122,6 @@ def end_mapping(world, memory):
             put_reads(world, buffer, low, high, "the host reads what commands wrote before it unmaps it")
         unmap(world, buffer)
     memory.mapping = None
-
-
-def unmap(world, buffer):
-    """Unmaps a buffer in the trace."""
-    if buffer.is_mapped:
-        buffer.is_mapped = False
-        world.emit(["unmap", buffer.id])
 
 
 def mapped_ranges(world, call):
@@ -317,67 +178,3 @@ def end_resource(world, part):
         world.emit(["destroy", part.id])
         world.grow_heap(part.type, -part.size)
     part.is_ended = True
-
-
-# ---- what the host reads
-
-
-def reads_after_wait(world):
-    """The host has waited: it reads what is known, where it can without an invalidation."""
-    for buffer in list(world.unread.values()):
-        memory = buffer.memory
-        is_mapped = memory.mapping is not None or memory.is_imported or world.reads == "all"
-        if buffer.is_judged and is_mapped and buffer.type == COHERENT_TYPE:
-            low, high = 0, buffer.size
-            if memory.mapping and world.reads != "all":
-                low, high = (max(0, edge - buffer.offset) for edge in memory.mapping[:2])
-            put_reads(world, buffer, low, high, "the host reads what commands wrote after it waits for them")
-
-
-def put_reads(world, buffer, low, high, why, marks=None):
-    """Reads what commands have written in a range and the host hasn't read since, where they are known complete or
-    were submitted before the marks, and no later command that isn't writes there."""
-    taken, left, busy = [], [], []
-    for part in buffer.unread:
-        batch, start, end = part
-        is_ready = world.queues.is_complete(batch) or marks is not None and world.queues.is_before(batch, marks)
-        if not is_ready:
-            busy.append((start, end))
-        (taken if is_ready and low < end and start < high else left).append(part)
-    spans = joined((max(low, start), min(high, end)) for _, start, end in taken)
-    for start, end in without(spans, joined(busy)):
-        ensure_mapped(world, buffer)
-        world.emit(["read", buffer.id, start, end - start], why)
-        world.summary.note(why)
-    left += [(batch, start, min(end, low)) for batch, start, end in taken if start < low]
-    left += [(batch, max(start, high), end) for batch, start, end in taken if high < end]
-    buffer.unread = left
-    if not buffer.unread:
-        world.unread.pop(buffer.handle, None)
-
-
-def joined(spans):
-    """Ranges in order, with those that touch made one."""
-    made = []
-    for start, end in sorted(spans):
-        if made and start <= made[-1][1]:
-            made[-1] = (made[-1][0], max(end, made[-1][1]))
-        else:
-            made.append((start, end))
-    return made
-
-
-def without(spans, holes):
-    """Ranges in order without others in order."""
-    place = 0
-    for start, end in spans:
-        while place < len(holes) and holes[place][1] <= start:
-            place += 1
-        at = place
-        while at < len(holes) and holes[at][0] < end:
-            if start < holes[at][0]:
-                yield start, holes[at][0]
-            start = max(start, holes[at][1])
-            at += 1
-        if start < end:
-            yield start, end

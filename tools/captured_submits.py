@@ -8,7 +8,8 @@ import bisect
 
 from captured_commands import Context, translated
 from captured_masks import ALL_COMMANDS, stages
-from captured_memory import chain, reads_after_wait
+from captured_host import reads_after_wait, stand_in
+from captured_memory import chain
 from captured_blocks import Bad
 
 QUEUES_OF = ((0, 1), (2, 3))
@@ -83,6 +84,10 @@ class Queues:
         self.queues.append(queue)
         self.known[queue.number] = 0
         return queue
+
+    def is_free(self, number):
+        """Whether the program has no queue of this number."""
+        return all(queue.number != number for queue in self.queues)
 
     def submitted(self):
         """The payload of all that is submitted so far."""
@@ -219,12 +224,14 @@ def batch_of(world, queue, info):
             waited += [earlier] if earlier is not None else []
     queue.waited[queue.count] = waited
     commands, origins = [], []
-    context = Context(queue.family, batch)
+    context = Context(queue.family, batch, world.queues.is_free(queue.number ^ 1))
     for call in commands_of(world, handles):
         made = translated_call(world, call, context)
         commands += made
         origins += [[call.index, call.name]] * len(made)
     world.command = None
+    if context.fills:
+        made_waits.append(stand_in(world, queue, context.fills))
     made_signals = [[queue.semaphore, queue.count, ALL_COMMANDS]]
     for handle, value, mask in signals:
         made_signals += signal_of(world, queue, batch, (handle, value, stages(mask, True)))

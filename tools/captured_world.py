@@ -28,6 +28,7 @@ class World:
         self.physical, self.devices, self.families, self.passes = defaultdict(Physical), {}, {}, {}
         self.recordings, self.events, self.event_waits = {}, {}, {}
         self.shared, self.unread, self.writable = set(), {}, {}
+        self.stand_ins, self.written = {}, 0
         self.call = self.command = None
         self.heap, self.peak = [0, 0], [0, 0]
         self.queues, self.semaphores = Queues(self), Semaphores(self)

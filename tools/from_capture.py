@@ -19,6 +19,7 @@ sys.dont_write_bytecode = True
 
 from captured_barriers import create_pass
 from captured_calls import Bad, Fill, in_order, read_capture
+import captured_host as host
 import captured_memory as memory
 import captured_resources as resources
 from captured_state import Stop
@@ -114,7 +115,7 @@ def convert(calls, blocks, reads):
         for part in in_order(calls, blocks):
             try:
                 if isinstance(part, Fill):
-                    memory.fill(world, part)
+                    host.fill(world, part)
                 else:
                     take(world, part)
             except (KeyError, TypeError, ValueError, AttributeError, IndexError) as error:
