@@ -22,6 +22,7 @@ WAITING = re.compile(rb"\x03+|\x04+")
 # Bytes that have changed, with up to three between them that haven't.
 CHANGED = re.compile(rb"[^\x00](?:\x00{0,3}[^\x00])*")
 COHERENT_TYPE, CACHED_TYPE = 1, 2
+TARGET_USAGE = 2
 # A write of so many bytes is a fill, where their values aren't known, and where they are.
 MANY_UNKNOWN, MANY = 4096, 262144
 # The bytes of all writes of a trace.
@@ -31,7 +32,7 @@ ON_HOST = ["barrier", [[0x1000, 0x1000, 0x4000, 0x6000]], [], []]
 EARLIER = "the host wrote these bytes before it"
 FLUSHED_EARLIER = "the host flushed these bytes before it"
 FILLED = ("many bytes that the host wrote at once are a fill with zeros, on the other queue of the family, in the"
-          " place of a write")
+          " place of a write; buffers as large have the usage TRANSFER_DST for it")
 IMPORTED = "the host wrote all of the imported memory that commands read, as zeros, before the first of them"
 MIXED = "what the host wrote over bytes of commands isn't told apart from what these wrote, and is left out"
 TOO_MANY = f"the host's writes of the trace would be more than {MOST_WRITTEN} bytes with those to it"
@@ -140,7 +141,10 @@ def commands_read(world, buffer, ranges, context):
             start, end = low + run.start(), low + run.end()
             state[start:end] = bytes([IN_TRACE]) * (end - start)
             is_flushed = buffer.type != CACHED_TYPE or run.group()[0] == FLUSHED
-            if is_flushed and is_many(world, buffer, start, end) and context.has_stand_in:
+            if buffer.memory.is_imported:
+                world.summary.note(IMPORTED, 0)
+            is_fill = is_many(world, buffer, end - start) and start % 4 == end % 4 == 0
+            if is_flushed and is_fill and context.has_stand_in:
                 context.fills.append(["fill", buffer.id, start, end - start, 0])
                 world.summary.note(FILLED, 0)
                 continue
@@ -152,13 +156,9 @@ def commands_read(world, buffer, ranges, context):
     return True
 
 
-def is_many(world, buffer, start, end):
-    """Whether these bytes are a fill in the place of a write."""
-    is_unknown = buffer.memory.is_imported or not world.has_blocks
-    if buffer.memory.is_imported:
-        world.summary.note(IMPORTED, 0)
-    return (end - start >= (MANY_UNKNOWN if is_unknown else MANY)
-            and start % 4 == 0 and end % 4 == 0 and buffer.usage & 2 == 2)
+def is_many(world, buffer, size):
+    """Whether so many bytes of the host are a fill in the place of a write."""
+    return size >= (MANY_UNKNOWN if buffer.memory.is_imported or not world.has_blocks else MANY)
 
 
 def stand_in(world, queue, fills):

@@ -1,7 +1,7 @@
 """Memory of a captured program: what is bound to it, its mappings, flushes and invalidations."""
 
-from captured_host import (CACHED_TYPE, COHERENT_TYPE, FLUSHED, FRESH, IN_TRACE, PENDING, ensure_mapped,
-                           host_wrote, parts_in, put_reads, shadow_of, unmap)
+from captured_host import (CACHED_TYPE, COHERENT_TYPE, FLUSHED, FRESH, IN_TRACE, PENDING, TARGET_USAGE, ensure_mapped,
+                           host_wrote, is_many, parts_in, put_reads, shadow_of, unmap)
 from captured_masks import WHOLE
 from captured_state import MOST_MEMORY, Memory
 
@@ -75,6 +75,8 @@ def bind_buffer(world, handle, memory_handle, offset):
     buffer.id = world.trace.new_id()
     buffer.is_concurrent = buffer.is_concurrent or handle in world.shared
     sharing = "concurrent" if buffer.is_concurrent else "exclusive"
+    if memory.is_visible and is_many(world, buffer, buffer.size):
+        buffer.usage |= TARGET_USAGE
     world.emit(["buffer", buffer.id, buffer.size, buffer.usage & 3, sharing, ["dedicated", memory.type]])
     world.grow_heap(memory.type, buffer.size)
     if memory.is_imported:

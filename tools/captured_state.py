@@ -8,6 +8,8 @@ from captured_places import Places
 # Limits of the format.
 MOST_POINTS, MOST_TEXT, MOST_MEMORY = 131072, 16777216, 67108864
 MOST_SIDE, MOST_LAYERS = 4096, 256
+# Of resources that aren't judged so many are listed.
+MOST_LISTED = 20
 
 
 class Stop(Exception):
@@ -35,8 +37,10 @@ class Summary:
         listed = ", ".join(f"{name} {count}" for name, count in names)
         yield f"calls left out: {sum(self.left_out.values())}" + (f" ({listed})" if listed else "")
         yield f"resources not judged: {len(self.opaque)}"
-        for text in self.opaque:
+        for text in self.opaque[:MOST_LISTED]:
             yield f"  {text}"
+        if len(self.opaque) > MOST_LISTED:
+            yield f"  and {len(self.opaque) - MOST_LISTED} more"
         for text, count in self.notes.items():
             yield f"assumed: {text}" + (f" ({count} times)" if count > 1 else "")
         if self.stopped:
