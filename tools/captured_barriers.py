@@ -1,6 +1,6 @@
 """Barriers and events of a captured program, of both generations."""
 
-from captured_masks import (EXTERNALS, IGNORED, LAYOUTS, REMAINING, WHOLE, accesses, has_other_stages,
+from captured_masks import (ALL_COMMANDS, EXTERNALS, IGNORED, LAYOUTS, REMAINING, TRANSFER, WHOLE, accesses, has_other_stages,
                             layout, stages)
 from captured_state import Stop
 
@@ -9,6 +9,8 @@ WIDENED = "stages of graphics and compute count as ALL_COMMANDS, and their acces
 GENERALIZED = "layouts of graphics count as GENERAL"
 SHARED = ("ownership isn't judged of resources whose part is transferred, nor between families that are one"
           " in the trace")
+SUBMITTED = ("a transition right behind one of the same image on the same queue is behind all commands: submission"
+             " orders the two")
 OUTSIDE = "it is handed to or from another API"
 MOVED = "an event's dependency has a transition of it"
 
@@ -56,10 +58,39 @@ def buffer_element(world, part, four, family):
     return [*four, *pair, buffer.id, part["offset"], size]
 
 
-def image_element(world, part, four, family):
+def parts_of(area):
+    """The levels and layers of a range, one by one."""
+    level, levels, layer, layers = area
+    return [(low, high) for low in range(level, level + levels) for high in range(layer, layer + layers)]
+
+
+def meet(first, second):
+    """Whether stages of a second scope meet those of a first scope."""
+    commands = TRANSFER | ALL_COMMANDS
+    return bool(first & second or ALL_COMMANDS & (first | second) and first & commands and second & commands)
+
+
+def in_order(world, image, four, area, context):
+    """Keeps a transition behind those before it on its queue, as Vulkan does without a dependency, where nothing
+    has used its levels and layers in between. Whether the trace can say that."""
+    for part in parts_of(area):
+        batch, target = image.moves.get(part, (None, 0))
+        is_behind = batch is None or batch[0] != context.batch[0] or meet(target, four[0])
+        if is_behind or world.queues.is_complete(batch) or context.waits_for(batch):
+            continue
+        if not meet(target, ALL_COMMANDS):
+            world.make_opaque(image, "only their submission orders two transitions of it, which a trace can't say")
+            return False
+        four[0] |= ALL_COMMANDS
+        world.summary.note(SUBMITTED, 0)
+    image.moves.update((part, (context.batch, four[2])) for part in parts_of(area))
+    return True
+
+
+def image_element(world, part, four, context):
     """An element on an image, or nothing where it isn't judged."""
     image = world.resource(part["image"])
-    pair, role = families(world, image, part, family)
+    pair, role = families(world, image, part, context.family)
     if not image.is_named:
         return None
     if part["oldLayout"] not in LAYOUTS or part["newLayout"] not in LAYOUTS:
@@ -67,7 +98,12 @@ def image_element(world, part, four, family):
     old, new = layout(part["oldLayout"]), layout(part["newLayout"])
     # (the transition of a transfer takes place once, here at the acquire)
     new = old if role == "release" else new
-    return [*four, *pair, image.id, old, new, subresources(image, part["subresourceRange"])]
+    area = subresources(image, part["subresourceRange"])
+    if pair != [IGNORED, IGNORED]:
+        image.used(parts_of(area))
+    elif old != new and not in_order(world, image, four, area, context):
+        return None
+    return [*four, *pair, image.id, old, new, area]
 
 
 def barrier(world, call, context):
@@ -89,7 +125,7 @@ def barrier(world, call, context):
         add(1, buffer_element(world, part, four, context.family), four)
     for part in info["pImageMemoryBarriers"] or []:
         four = masks(world, part, outer)
-        add(2, image_element(world, part, four, context.family), four)
+        add(2, image_element(world, part, four, context), four)
     if not any(made) and outer:
         add(0, masks(world, {"srcAccessMask": 0, "dstAccessMask": 0}, outer), None)
     return [["barrier", *made]] if any(made) else []

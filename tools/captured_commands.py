@@ -1,6 +1,7 @@
 """Commands of a captured program: those that a trace has, and what the others leave unjudged."""
 
-from captured_barriers import (await_events, barrier, begin_pass, end_pass, set_event, subresources)
+from captured_barriers import (await_events, barrier, begin_pass, end_pass, parts_of, set_event,
+                               subresources)
 from captured_masks import REMAINING, WHOLE, clear_words, layout
 from captured_host import commands_read, commands_write
 
@@ -18,13 +19,17 @@ TARGETS = ("dstImage", "dstBuffer", "image", "buffer")
 
 
 class Context:
-    """Where a command is: the family of its queue in the capture, its batch, its render pass, and the fills that
+    """Where a command is: the family of its queue in the capture, its batch, those that it waits for, its render pass, and the fills that
     stand for what the host wrote, where there is a queue for them."""
 
-    def __init__(self, family, batch, has_stand_in):
-        self.family, self.batch = family, batch
+    def __init__(self, family, batch, waited, has_stand_in):
+        self.family, self.batch, self.waited = family, batch, waited
         self.render_pass, self.fills = None, []
         self.has_stand_in = has_stand_in
+
+    def waits_for(self, batch):
+        """Whether the batch waits for another one, or a later one of its queue."""
+        return any(number == batch[0] and count >= batch[1] for number, count in self.waited)
 
 
 def inner(call):
@@ -105,6 +110,12 @@ def image_region(image, part):
             extent["width"], extent["height"]]
 
 
+def use_regions(image, regions):
+    """The levels and layers of regions are used."""
+    for region in regions:
+        image.used(parts_of([region[3], 1, region[4], region[5]]))
+
+
 def rows(region, texel, size):
     """The ranges of a buffer that a region has, row by row where there is room between rows."""
     offset, length, lines, _, _, layers, _, _, width, height = region
@@ -126,6 +137,7 @@ def copy_in(world, call, context):
     spans = [span for region in regions for span in rows(region, image.form.texel, buffer.size)]
     if not commands_read(world, buffer, spans, context):
         return leave(world, call, buffer, image)
+    use_regions(image, regions)
     return [["copy_in", buffer.id, image.id, layout(info["dstImageLayout"]), regions]]
 
 
@@ -138,6 +150,7 @@ def copy_out(world, call, context):
     regions = [image_region(image, part) for part in info["pRegions"]]
     for region in regions:
         commands_write(world, buffer, rows(region, image.form.texel, buffer.size), context.batch)
+    use_regions(image, regions)
     return [["copy_out", image.id, layout(info["srcImageLayout"]), buffer.id, regions]]
 
 
@@ -154,6 +167,9 @@ def copy_image(world, call, context):
                         layers_of(source, start), part["srcOffset"]["x"], part["srcOffset"]["y"],
                         part["dstOffset"]["x"], part["dstOffset"]["y"],
                         part["extent"]["width"], part["extent"]["height"]])
+    for level, layer, other_level, other_layer, layers, *_ in regions:
+        source.used(parts_of([level, 1, layer, layers]))
+        target.used(parts_of([other_level, 1, other_layer, layers]))
     return [["copy_image", source.id, layout(info["srcImageLayout"]), target.id,
              layout(info["dstImageLayout"]), regions]]
 
@@ -167,6 +183,8 @@ def clear_image(world, call, context):
     if not is_exact:
         world.summary.note(CLEARED)
     ranges = [subresources(image, part) for part in call.args["pRanges"]]
+    for area in ranges:
+        image.used(parts_of(area))
     return [["clear", image.id, layout(call.args["imageLayout"]), words, ranges]]
 
 

@@ -142,6 +142,13 @@ class Image(Resource):
         self.is_linear = False
         self.sides = (1, 1)
         self.usage = self.type = self.size = 0
+        # the batch and the second scope of the latest transition of each level and layer, where no use followed
+        self.moves = {}
+
+    def used(self, parts):
+        """Levels and layers are used."""
+        for part in parts:
+            self.moves.pop(part, None)
 
 
 class Memory:

@@ -224,7 +224,7 @@ def batch_of(world, queue, info):
             waited += [earlier] if earlier is not None else []
     queue.waited[queue.count] = waited
     commands, origins = [], []
-    context = Context(queue.family, batch, world.queues.is_free(queue.number ^ 1))
+    context = Context(queue.family, batch, waited, world.queues.is_free(queue.number ^ 1))
     for call in commands_of(world, handles):
         made = translated_call(world, call, context)
         commands += made
