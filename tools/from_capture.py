@@ -130,11 +130,17 @@ def convert(calls, blocks, reads):
 
 
 def side_file(world, capture):
-    """The debug names and the calls of a trace's entries."""
-    objects = {str(part.id): {"kind": part.kind, "handle": part.handle, "call": part.call.index,
-                              **({"name": world.names[part.handle]} if part.handle in world.names else {})}
-               for part in world.resources.values() if part.id is not None}
-    return {"capture": capture, "objects": objects, "entries": world.trace.origins}
+    """The debug names and the calls of a trace's entries, an entry a line."""
+    objects = {}
+    for part in world.resources.values():
+        if part.id is not None:
+            origin = {"kind": part.kind, "handle": part.handle, "call": part.call.index}
+            if part.handle in world.names:
+                origin["name"] = world.names[part.handle]
+            objects[str(part.id)] = origin
+    lines = ",\n".join(map(json.dumps, world.trace.origins))
+    first = f'{{"capture": {json.dumps(capture)},\n"objects": {json.dumps(objects)},\n'
+    return f'{first}"entries": [\n{lines}\n]}}\n'
 
 
 POINT = re.compile(r"(\d+)(?:\.(\d+)\.([ws]?)(\d+))?$")
@@ -193,8 +199,7 @@ def run(options):
         print(line, file=sys.stderr)
     if options.names:
         with open(options.names, "w", encoding="utf-8") as file:
-            json.dump(side_file(world, options.capture or options.json), file, indent=0)
-            file.write("\n")
+            file.write(side_file(world, options.capture or options.json))
     sys.stdout.write(world.trace.text())
     return STOPPED if world.summary.stopped else 0
 

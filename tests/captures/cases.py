@@ -316,7 +316,52 @@ def too_many():
     return program
 
 
-def reads_outside():
+def transitions(way):
+    """A transition right behind another one, which submission orders, and one behind a copy, which it doesn't."""
+    program = Program()
+    queue, image, (source, _) = program.queue(), program.image(), program.buffer(LOCAL, 64)
+    element = on_image(image, (0, 0 if way == "bottom" else WRITE), (UNDEFINED, TARGET))
+    first = barrier(TOP, BOTTOM if way == "bottom" else TRANSFER, images=[element])
+    second = barrier(TOP, TRANSFER, images=[on_image(image, (0, READ), (TARGET, SOURCE))])
+    between = [copy_in(source, image)] if way == "used" else []
+    program.submit(queue, [program.commands(fill(source), TO_COPY, first, *between)])
+    if way == "waited":
+        program.idle()
+    program.submit(queue, [program.commands(second)])
+    if way == "used":
+        return Case(program, "HAZARD_WAR", len(program.lines) - 2)
+    says = {"bare": ("submission orders the two",), "bottom": ("which a trace can't say",), "waited": ()}[way]
+    return Case(program, None, None, says)
+
+
+def large(kind):
+    """More bytes of the host than are written one by one, in imported memory or in JSON alone."""
+    program = Program()
+    queue, size = program.queue(), 65536
+    source, (target, memory) = program.loose_buffer(size, 1), program.buffer(COHERENT, size)
+    link = {"sType": "VK_STRUCTURE_TYPE_IMPORT_MEMORY_HOST_POINTER_INFO_EXT", "pNext": None}
+    place = program.memory(COHERENT, size, link if kind == "imported" else None)
+    program.bound(source, place)
+    if kind == "mapped":
+        program.mapped(place)
+    for _ in range(2):
+        program.submit(queue, [program.commands(TO_COPY, copy(source, target, size), TO_HOST)])
+        program.idle()
+    program.read_back(memory)
+    return Case(program, None, None, ("are a fill with zeros",), "00" * size)
+
+
+def named():
+    """Debug names, in the summary."""
+    program = Program()
+    queue, (target, _) = program.queue(), program.buffer(LOCAL, 16, 0x23)
+    program.call("vkSetDebugUtilsObjectNameEXT", device=DEVICE, pNameInfo={
+        "objectHandle": target, "pObjectName": "particles"})
+    program.submit(queue, [program.commands(("vkCmdDispatch", {}))])
+    return Case(program, None, None, (f"buffer {target} 'particles', from call",))
+
+
+def destroyed():
     """A buffer that the host destroys while a command uses it."""
     program = Program()
     queue, (target, _) = program.queue(), program.buffer()
@@ -348,5 +393,7 @@ CASES = {
     "a clear of BGRA": lambda: Case(BGRA, None, None, (), "8000ffff" * 16),
     "a clear of a packed format": lambda: Case(PACKED, None, None, ("the color of a clear",), "00000000" * 16),
     "frames": lambda: frames(True), "frames, no wait": lambda: frames(False),
-    "destroyed in use": reads_outside,
+    **{f"transitions, {way}": lambda way=way: transitions(way) for way in ("bare", "bottom", "waited", "used")},
+    "many bytes, imported": lambda: large("imported"), "many bytes, mapped": lambda: large("mapped"),
+    "debug names": named, "destroyed in use": destroyed,
 }
