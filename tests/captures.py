@@ -5,39 +5,31 @@
 
 With WORD only those tests run whose names have it. The captures are of tests/captures/transfers.c, once right and
 once for each fault, of ffmpeg and of vkcube, each with the JSON of gfxrecon-convert; what few drivers have is in
-captures of programs that aren't run (tests/captures/cases.py). Each trace has to be accepted, or refused by the
+captures of programs that aren't run (orders.py and resources.py there). Each trace has to be accepted, or refused by the
 rule that is named, at the call that is named. What needs gfxrecon-convert is skipped where it isn't installed.
 """
 
-import contextlib
 import gzip
 import json
 import pathlib
 import shutil
-import struct
 import sys
-import tempfile
 
 sys.dont_write_bytecode = True
 sys.path.insert(1, str(pathlib.Path(__file__).resolve().parent / "captures"))
 
-from cases import CASES, too_many
 from harness import EXPLAIN, PROGRAM, TOP, Skipped, Test, difference, main, run
+from orders import CASES as ORDERS
+from refusals import TOOL, folder, refused_tests
+from resources import CASES as RESOURCES
+from resources import too_many
 
-TOOL = [sys.executable, str(TOP / "tools" / "from_capture.py")]
 KEPT = TOP / "tests" / "captures"
 CONVERTER = "gfxrecon-convert"
 ALL_BYTES = bytes(range(256)).hex()
 # The right bytes after the update and the fill of the second generation.
 CHANGED = f"{ALL_BYTES[:16]}09080706{ALL_BYTES[24:32]}0403020104030201{ALL_BYTES[48:]}"
 COHERENT, CACHED = b'"propertyFlags":15', b'"propertyFlags":11'
-
-
-@contextlib.contextmanager
-def folder():
-    """A folder for the files of a test."""
-    with tempfile.TemporaryDirectory() as path:
-        yield pathlib.Path(path)
 
 
 def where(point, names):
@@ -90,7 +82,7 @@ def case_fault(make):
 
 def case_tests():
     """The tests of programs that aren't run."""
-    for name, make in CASES.items():
+    for name, make in {**ORDERS, **RESOURCES}.items():
         yield Test(f"made: {name}", lambda make=make: case_fault(make))
 
 
@@ -98,7 +90,9 @@ def case_tests():
 
 READ_AT_MAP = "vkMapMemory (the host reads what commands wrote when it maps it)"
 READ_AT_UNMAP = "vkUnmapMemory (the host reads what commands wrote before it unmaps it)"
-READ_AT_INVALIDATION = "vkInvalidateMappedMemoryRanges (the host reads what commands wrote after it invalidates it)"
+READ_AT_INVALIDATION = (
+    "vkInvalidateMappedMemoryRanges (the host reads what commands wrote after it invalidates it)"
+)
 KEPT_CASES = {
     "right": [(None, ALL_BYTES), (None, ALL_BYTES)],
     "second_generation": [(None, CHANGED), (None, CHANGED)],
@@ -131,10 +125,18 @@ def kept_tests():
 
 # ---- the captures of other programs
 
-FFMPEG = ["calls judged: 214", "calls left out: 0", "resources not judged: 0",
-          "assumed: the host wrote all of the imported memory"]
-VKCUBE = ["calls judged: 72", "calls left out: 27 (vkAcquireNextImage 3, vkCmdBeginRenderPass 3,",
-          "resources not judged: 0", "assumed: layouts of graphics count as GENERAL"]
+FFMPEG = [
+    "calls judged: 214",
+    "calls left out: 0",
+    "resources not judged: 0",
+    "assumed: the host wrote all of the imported memory",
+]
+VKCUBE = [
+    "calls judged: 72",
+    "calls left out: 27 (vkAcquireNextImage 3, vkCmdBeginRenderPass 3,",
+    "resources not judged: 0",
+    "assumed: layouts of graphics count as GENERAL",
+]
 
 
 def program_fault(name, options, wanted, says):
@@ -143,88 +145,27 @@ def program_fault(name, options, wanted, says):
         arguments = [*options, "--json", KEPT / f"{name}.jsonl.gz", KEPT / f"{name}.gfxr.gz"]
         rule, call, _, said = judged(arguments, room)
     missing = [part for part in says if part not in said]
-    return difference(wanted, (rule, call)) or (f"the summary doesn't say {missing}: {said}" if missing else None)
+    return difference(wanted, (rule, call)) or (
+        f"the summary doesn't say {missing}: {said}" if missing else None
+    )
 
 
 def program_tests():
     """The tests of ffmpeg and vkcube."""
     for reads in ("mapped", "all"):
-        yield Test(f"ffmpeg, --reads {reads}: no barrier to the host", lambda reads=reads: program_fault(
-            "ffmpeg", ["--reads", reads], ("HAZARD_RAW", 335), FFMPEG))
-    yield Test("ffmpeg, --reads none", lambda: program_fault("ffmpeg", ["--reads", "none"], (None, None), FFMPEG))
-    yield Test("vkcube, compressed by LZ4", lambda: program_fault("vkcube", [], (None, None), VKCUBE))
-
-
-# ---- inputs that can't be converted
-
-
-def refused(name, files, arguments, says, status=1):
-    """A test that the tool refuses these files, with this sentence."""
-
-    def judge():
-        with folder() as room:
-            for title, data in files.items():
-                (room / title).write_bytes(data)
-            answer = run([*TOOL, *(part.replace("@", f"{room}/") for part in arguments)])
-        if answer.status != status or answer.output or says not in answer.error.decode():
-            return f"status {status} and {says!r} are wanted: {answer}"
-        return None
-
-    return Test(f"refused: {name}", judge)
-
-
-def head(*options):
-    """The head of a capture."""
-    return struct.pack("<4s3I", b"GFXR", 0, 0, len(options)) + b"".join(struct.pack("<2I", *part) for part in options)
-
-
-def block(kind, data):
-    """A block of a capture."""
-    return struct.pack("<QI", len(data), kind) + data
-
-
-HEADER = b'{"header":{"source-path":"made.gfxr"}}\n'
-FILL = struct.pack("<IQQqQ", 0x10002, 1, 8, 0, 64)
-
-
-def line(index, name, args):
-    """A line of JSON."""
-    return json.dumps({"index": index, "vkFunc": {"name": name, "args": args}}).encode() + b"\n"
-
-
-def refused_tests():
-    """The tests of inputs that can't be converted."""
-    yield refused("no file", {}, ["--json", "@none.jsonl"], "none.jsonl: No such file or directory")
-    yield refused("no capture", {"a.gfxr": b"nothing"}, ["@a.gfxr"], "a.gfxr: not a capture of GFXReconstruct")
-    yield refused("a cut head", {"a.gfxr": head((1, 0))[:20]}, ["@a.gfxr"], "it ends in its head, which has 1 options")
-    yield refused("an unknown block", {"a.gfxr": head() + block(5, b"ab") + block(77, b"abc")}, ["@a.gfxr"],
-                  "a.gfxr: block 1, byte 30: a block of the unknown kind 0x4d")
-    for number, title in ((2, "ZLIB"), (3, "ZSTD"), (9, "9")):
-        yield refused(f"compression {title}", {"a.gfxr": head((1, number)) + block(0x80000003, FILL + b"abc")},
-                      ["@a.gfxr"], f"block 0, byte 24: its compression {title} can't be read here")
-    for data in (b"abc", b"\x00" * 9, b"\x1fa\xff\xff", b"\xf0", b"\x0fa\x01\x00\xff"):
-        yield refused(f"LZ4 {data.hex()}", {"a.gfxr": head((1, 1)) + block(0x80000003, FILL + data)}, ["@a.gfxr"],
-                      "block 0, byte 24: its LZ4 can't be read")
-    yield refused("a capture of some frames", {"a.gfxr": head() + block(2, bytes(12))}, ["@a.gfxr"],
-                  "block 0, byte 16: the capture begins within the program")
-    yield refused("a short write", {"a.gfxr": head() + block(3, FILL + b"abc")}, ["@a.gfxr"],
-                  "block 0, byte 16: a write to memory of 64 bytes that has 3")
-    yield refused("a shorter write", {"a.gfxr": head() + block(3, FILL[:8])}, ["@a.gfxr"], "that is too short")
-    yield refused("no JSON Lines", {"a.jsonl": b"[]\n"}, ["--json", "@a.jsonl"], "it doesn't begin with its header")
-    yield refused("no JSON", {"a.jsonl": HEADER + b"{\n"}, ["--json", "@a.jsonl"], "a.jsonl: line 2: not JSON")
-    yield refused("no name", {"a.jsonl": HEADER + b'{"index":1,"vkFunc":{}}'}, ["--json", "@a.jsonl"],
-                  "a.jsonl: line 2: expected the member 'name'")
-    yield refused("no arguments", {"a.jsonl": HEADER + b'{"index":7,"vkFunc":{"name":"vkX","args":3}}'},
-                  ["--json", "@a.jsonl"], "line 2: call 7 vkX: expected its arguments")
-    yield refused("a missing argument", {"a.jsonl": HEADER + line(7, "vkCreateBuffer", {"pBuffer": 3})},
-                  ["--json", "@a.jsonl"], "call 7 vkCreateBuffer: its arguments aren't as expected: KeyError 'pCreateInfo'")
-    yield refused("a queue that wasn't asked for", {"a.jsonl": HEADER + line(7, "vkQueueSubmit", {"queue": 3})},
-                  ["--json", "@a.jsonl"], "call 7 vkQueueSubmit: queue 3 wasn't asked for")
-    yield refused("no input", {}, [], "a capture or --json FILE.jsonl is needed", 2)
-    yield refused("--where alone", {}, ["--where", "1"], "--where needs --names FILE", 2)
-    yield refused("a bad point", {"n": b"{}"}, ["--where", "1.2", "--names", "@n"], "expected a point such as 5")
-    yield refused("no names", {"n": b"[]"}, ["--where", "1", "--names", "@n"], "not a file that --names wrote")
-    yield refused("no such point", {"n": b'{"entries":[]}'}, ["--where", "3.0.1", "--names", "@n"], "no point 3.0.1")
+        yield Test(
+            f"ffmpeg, --reads {reads}: no barrier to the host",
+            lambda reads=reads: program_fault(
+                "ffmpeg", ["--reads", reads], ("HAZARD_RAW", 335), FFMPEG
+            ),
+        )
+    yield Test(
+        "ffmpeg, --reads none",
+        lambda: program_fault("ffmpeg", ["--reads", "none"], (None, None), FFMPEG),
+    )
+    yield Test(
+        "vkcube, compressed by LZ4", lambda: program_fault("vkcube", [], (None, None), VKCUBE)
+    )
 
 
 # ---- what needs gfxrecon-convert
@@ -253,8 +194,10 @@ def too_many_fault():
     if b"with it the trace would have more than 131072 points" not in made.error:
         return f"it isn't said: {made.error.decode()}"
     entries = json.loads(made.output)
-    points = sum(1 + (sum(len(part) for batch in entry[2] for part in batch) if entry[0] == "submit" else 0)
-                 for entry in entries)
+    points = sum(
+        1 + (sum(len(part) for batch in entry[2] for part in batch) if entry[0] == "submit" else 0)
+        for entry in entries
+    )
     return None if 130000 < points <= 131072 else f"{points} points"
 
 

@@ -1,16 +1,31 @@
 """Barriers and events of a captured program, of both generations."""
 
-from captured_masks import (ALL_COMMANDS, EXTERNALS, IGNORED, LAYOUTS, REMAINING, TRANSFER, WHOLE, accesses, has_other_stages,
-                            layout, stages)
+from captured_masks import (
+    ALL_COMMANDS,
+    EXTERNALS,
+    IGNORED,
+    LAYOUTS,
+    REMAINING,
+    TRANSFER,
+    WHOLE,
+    accesses,
+    has_other_stages,
+    layout,
+    stages,
+)
 from captured_state import Stop
 
 EXTERNAL_SUBPASS = 0xFFFFFFFF
 WIDENED = "stages of graphics and compute count as ALL_COMMANDS, and their accesses are left out"
 GENERALIZED = "layouts of graphics count as GENERAL"
-SHARED = ("ownership isn't judged of resources whose part is transferred, nor between families that are one"
-          " in the trace")
-SUBMITTED = ("a transition right behind one of the same image on the same queue is behind all commands: submission"
-             " orders the two")
+SHARED = (
+    "ownership isn't judged of resources whose part is transferred, nor between families that are one"
+    " in the trace"
+)
+SUBMITTED = (
+    "a transition right behind one of the same image on the same queue is behind all commands: submission"
+    " orders the two"
+)
 OUTSIDE = "it is handed to or from another API"
 MOVED = "an event's dependency has a transition of it"
 
@@ -21,8 +36,12 @@ def masks(world, part, outer=None):
     for name in ("srcStageMask", "dstStageMask"):
         if has_other_stages(outer[name]):
             world.summary.note(WIDENED, 0)
-    return [stages(outer["srcStageMask"], True), accesses(part["srcAccessMask"]),
-            stages(outer["dstStageMask"], False), accesses(part["dstAccessMask"])]
+    return [
+        stages(outer["srcStageMask"], True),
+        accesses(part["srcAccessMask"]),
+        stages(outer["dstStageMask"], False),
+        accesses(part["dstAccessMask"]),
+    ]
 
 
 def families(world, resource, part, family):
@@ -44,8 +63,12 @@ def subresources(image, part):
     """The range of levels and layers of an element or a clear."""
     level, layer = part["baseMipLevel"], part["baseArrayLayer"]
     levels, layers = part["levelCount"], part["layerCount"]
-    return [level, image.levels - level if levels == REMAINING else levels,
-            layer, image.layers - layer if layers == REMAINING else layers]
+    return [
+        level,
+        image.levels - level if levels == REMAINING else levels,
+        layer,
+        image.layers - layer if layers == REMAINING else layers,
+    ]
 
 
 def buffer_element(world, part, four, family):
@@ -61,13 +84,17 @@ def buffer_element(world, part, four, family):
 def parts_of(area):
     """The levels and layers of a range, one by one."""
     level, levels, layer, layers = area
-    return [(low, high) for low in range(level, level + levels) for high in range(layer, layer + layers)]
+    return [
+        (low, high) for low in range(level, level + levels) for high in range(layer, layer + layers)
+    ]
 
 
 def meet(first, second):
     """Whether stages of a second scope meet those of a first scope."""
     commands = TRANSFER | ALL_COMMANDS
-    return bool(first & second or ALL_COMMANDS & (first | second) and first & commands and second & commands)
+    return bool(
+        first & second or ALL_COMMANDS & (first | second) and first & commands and second & commands
+    )
 
 
 def in_order(world, image, four, area, context):
@@ -79,7 +106,9 @@ def in_order(world, image, four, area, context):
         if is_behind or world.queues.is_complete(batch) or context.waits_for(batch):
             continue
         if not meet(target, ALL_COMMANDS):
-            world.make_opaque(image, "only their submission orders two transitions of it, which a trace can't say")
+            world.make_opaque(
+                image, "only their submission orders two transitions of it, which a trace can't say"
+            )
             return False
         four[0] |= ALL_COMMANDS
         world.summary.note(SUBMITTED, 0)
@@ -138,8 +167,13 @@ def create_pass(world, call):
     """Keeps the dependencies of a render pass with what is outside."""
     parts = call.args["pCreateInfo"]["pDependencies"] or []
     world.passes[call.args["pRenderPass"]] = [
-        [(part, next((link for link in chained(part) if "srcStageMask" in link), part)) for part in parts
-         if part[side] == EXTERNAL_SUBPASS] for side in ("srcSubpass", "dstSubpass")]
+        [
+            (part, next((link for link in chained(part) if "srcStageMask" in link), part))
+            for part in parts
+            if part[side] == EXTERNAL_SUBPASS
+        ]
+        for side in ("srcSubpass", "dstSubpass")
+    ]
 
 
 def chained(part):

@@ -122,13 +122,17 @@ class Reader:
         """Each block: its kind without the bit of compression, whether it has it, and its bytes."""
         while self.place < len(self.data):
             first = self.place + BLOCK.size
-            size, kind = BLOCK.unpack_from(self.data, self.place) if first <= len(self.data) else (0, 0)
+            size, kind = (
+                BLOCK.unpack_from(self.data, self.place) if first <= len(self.data) else (0, 0)
+            )
             if first + size > len(self.data):
                 self.ends_within = f"block {self.index}, byte {self.place}"
                 return
             if not 0 < kind & ~COMPRESSED <= LAST_KIND:
                 raise self.bad(f"a block of the unknown kind 0x{kind:x}")
-            yield kind & ~COMPRESSED, bool(kind & COMPRESSED), memoryview(self.data)[first : first + size]
+            yield kind & ~COMPRESSED, bool(kind & COMPRESSED), memoryview(self.data)[
+                first : first + size
+            ]
             self.place = first + size
             self.index += 1
 
@@ -138,8 +142,10 @@ class Reader:
             return bytes(data)
         if self.compression != LZ4:
             name = COMPRESSIONS.get(self.compression, self.compression)
-            raise self.bad(f"its compression {name} can't be read here, only LZ4 and none: capture with"
-                           " GFXRECON_CAPTURE_COMPRESSION_TYPE=NONE")
+            raise self.bad(
+                f"its compression {name} can't be read here, only LZ4 and none: capture with"
+                " GFXRECON_CAPTURE_COMPRESSION_TYPE=NONE"
+            )
         try:
             return unpacked_lz4(data, size)
         except (ValueError, IndexError) as error:
@@ -175,8 +181,10 @@ def read_blocks(path):
     fills, updates = [], {}
     for kind, is_compressed, block in reader.each():
         if kind == STATE_MARKER:
-            raise reader.bad("the capture begins within the program, so that what came before isn't known:"
-                             " capture all frames")
+            raise reader.bad(
+                "the capture begins within the program, so that what came before isn't known:"
+                " capture all frames"
+            )
         if kind == META_DATA and len(block) >= 4 and META.unpack_from(block)[0] == FILL_MEMORY:
             fills.append(reader.fill(block, is_compressed))
         elif kind == FUNCTION_CALL and len(block) >= CALL.size:

@@ -28,17 +28,25 @@ class Call(NamedTuple):
 def converted(path):
     """The JSON of a capture, by gfxrecon-convert."""
     if shutil.which(CONVERTER) is None:
-        raise Bad(f"{CONVERTER} isn't installed: it is in Debian's package gfxreconstruct;"
-                  " or name a JSON that it made elsewhere: --json FILE.jsonl")
+        raise Bad(
+            f"{CONVERTER} isn't installed: it is in Debian's package gfxreconstruct;"
+            " or name a JSON that it made elsewhere: --json FILE.jsonl"
+        )
     with tempfile.TemporaryDirectory() as folder:
         made = os.path.join(folder, "capture.jsonl")
         plain = unpacked_file(path, folder)
-        ended = subprocess.run([CONVERTER, "--output", made, plain], check=False,
-                               stdout=subprocess.PIPE, stderr=subprocess.STDOUT)
+        ended = subprocess.run(
+            [CONVERTER, "--output", made, plain],
+            check=False,
+            stdout=subprocess.PIPE,
+            stderr=subprocess.STDOUT,
+        )
         if ended.returncode != 0 or not os.path.exists(made):
             said = ended.stdout.decode(errors="replace").strip().splitlines()
-            raise Bad(f"{CONVERTER} failed on {path}, status {ended.returncode}"
-                      + (f": {said[-1]}" if said else ""))
+            raise Bad(
+                f"{CONVERTER} failed on {path}, status {ended.returncode}"
+                + (f": {said[-1]}" if said else "")
+            )
         return file_bytes(made)
 
 

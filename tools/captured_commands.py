@@ -1,20 +1,48 @@
 """Commands of a captured program: those that a trace has, and what the others leave unjudged."""
 
-from captured_barriers import (await_events, barrier, begin_pass, end_pass, parts_of, set_event,
-                               subresources)
+from captured_barriers import (
+    await_events,
+    barrier,
+    begin_pass,
+    end_pass,
+    parts_of,
+    set_event,
+    subresources,
+)
 from captured_masks import REMAINING, WHOLE, clear_words, layout
 from captured_host import commands_read, commands_write
 
 NO_UPDATE = "the bytes of vkCmdUpdateBuffer aren't in the JSON, and are taken as zeros"
-CLEARED = "the color of a clear of a format other than UNORM, UINT, SINT and SFLOAT is taken as zeros"
+CLEARED = (
+    "the color of a clear of a format other than UNORM, UINT, SINT and SFLOAT is taken as zeros"
+)
 # Commands that write no resource, by how their names begin.
-IDLE = ("vkCmdSet", "vkCmdBind", "vkCmdPush", "vkCmdBeginQuery", "vkCmdEndQuery", "vkCmdResetQueryPool",
-        "vkCmdWriteTimestamp", "vkCmdBeginDebug", "vkCmdEndDebug", "vkCmdInsertDebug", "vkCmdDebugMarker",
-        "vkCmdNextSubpass", "vkCmdEndRendering", "vkCmdResetEvent", "vkCmdBeginConditional",
-        "vkCmdEndConditional")
+IDLE = (
+    "vkCmdSet",
+    "vkCmdBind",
+    "vkCmdPush",
+    "vkCmdBeginQuery",
+    "vkCmdEndQuery",
+    "vkCmdResetQueryPool",
+    "vkCmdWriteTimestamp",
+    "vkCmdBeginDebug",
+    "vkCmdEndDebug",
+    "vkCmdInsertDebug",
+    "vkCmdDebugMarker",
+    "vkCmdNextSubpass",
+    "vkCmdEndRendering",
+    "vkCmdResetEvent",
+    "vkCmdBeginConditional",
+    "vkCmdEndConditional",
+)
 # Commands that write the resources alone that they name.
-NAMED = ("vkCmdBlitImage", "vkCmdResolveImage", "vkCmdCopyQueryPoolResults", "vkCmdClearDepthStencilImage",
-         "vkCmdWriteBufferMarker")
+NAMED = (
+    "vkCmdBlitImage",
+    "vkCmdResolveImage",
+    "vkCmdCopyQueryPoolResults",
+    "vkCmdClearDepthStencilImage",
+    "vkCmdWriteBufferMarker",
+)
 TARGETS = ("dstImage", "dstBuffer", "image", "buffer")
 
 
@@ -54,7 +82,9 @@ def judge_copy(world, call, source, target):
 def leave(world, call, source, target):
     """Leaves a copy out, which has no commands then: where its source isn't judged, its target is no more."""
     if target.is_named:
-        world.make_opaque(target, f"{call.name} writes it from {world.name(source)}, which isn't judged")
+        world.make_opaque(
+            target, f"{call.name} writes it from {world.name(source)}, which isn't judged"
+        )
     world.summary.left_out[call.name] += 1
     return []
 
@@ -90,9 +120,13 @@ def copy_buffer(world, call, context):
     if not judge_copy(world, call, source, target):
         return []
     regions = [[part["srcOffset"], part["dstOffset"], part["size"]] for part in info["pRegions"]]
-    if not commands_read(world, source, [(start, start + size) for start, _, size in regions], context):
+    if not commands_read(
+        world, source, [(start, start + size) for start, _, size in regions], context
+    ):
         return leave(world, call, source, target)
-    commands_write(world, target, [(start, start + size) for _, start, size in regions], context.batch)
+    commands_write(
+        world, target, [(start, start + size) for _, start, size in regions], context.batch
+    )
     return [["copy", source.id, target.id, regions]]
 
 
@@ -105,9 +139,18 @@ def layers_of(image, part):
 def image_region(image, part):
     """A region between a buffer and an image."""
     where, offset, extent = part["imageSubresource"], part["imageOffset"], part["imageExtent"]
-    return [part["bufferOffset"], part["bufferRowLength"], part["bufferImageHeight"], where["mipLevel"],
-            where["baseArrayLayer"], layers_of(image, where), offset["x"], offset["y"],
-            extent["width"], extent["height"]]
+    return [
+        part["bufferOffset"],
+        part["bufferRowLength"],
+        part["bufferImageHeight"],
+        where["mipLevel"],
+        where["baseArrayLayer"],
+        layers_of(image, where),
+        offset["x"],
+        offset["y"],
+        extent["width"],
+        extent["height"],
+    ]
 
 
 def use_regions(image, regions):
@@ -122,8 +165,11 @@ def rows(region, texel, size):
     length, lines = length or width, lines or height
     if length == width and (lines == height or layers == 1):
         return [(offset, min(size, offset + layers * height * width * texel))]
-    starts = (offset + (layer * lines + line) * length * texel
-              for layer in range(layers) for line in range(height))
+    starts = (
+        offset + (layer * lines + line) * length * texel
+        for layer in range(layers)
+        for line in range(height)
+    )
     return [(start, min(size, start + width * texel)) for start in starts if start < size]
 
 
@@ -163,15 +209,34 @@ def copy_image(world, call, context):
     regions = []
     for part in info["pRegions"]:
         start, end = part["srcSubresource"], part["dstSubresource"]
-        regions.append([start["mipLevel"], start["baseArrayLayer"], end["mipLevel"], end["baseArrayLayer"],
-                        layers_of(source, start), part["srcOffset"]["x"], part["srcOffset"]["y"],
-                        part["dstOffset"]["x"], part["dstOffset"]["y"],
-                        part["extent"]["width"], part["extent"]["height"]])
+        regions.append(
+            [
+                start["mipLevel"],
+                start["baseArrayLayer"],
+                end["mipLevel"],
+                end["baseArrayLayer"],
+                layers_of(source, start),
+                part["srcOffset"]["x"],
+                part["srcOffset"]["y"],
+                part["dstOffset"]["x"],
+                part["dstOffset"]["y"],
+                part["extent"]["width"],
+                part["extent"]["height"],
+            ]
+        )
     for level, layer, other_level, other_layer, layers, *_ in regions:
         source.used(parts_of([level, 1, layer, layers]))
         target.used(parts_of([other_level, 1, other_layer, layers]))
-    return [["copy_image", source.id, layout(info["srcImageLayout"]), target.id,
-             layout(info["dstImageLayout"]), regions]]
+    return [
+        [
+            "copy_image",
+            source.id,
+            layout(info["srcImageLayout"]),
+            target.id,
+            layout(info["dstImageLayout"]),
+            regions,
+        ]
+    ]
 
 
 def clear_image(world, call, context):
@@ -189,17 +254,27 @@ def clear_image(world, call, context):
 
 
 COMMANDS = {
-    "vkCmdFillBuffer": fill_buffer, "vkCmdUpdateBuffer": update_buffer,
-    "vkCmdCopyBuffer": copy_buffer, "vkCmdCopyBuffer2": copy_buffer,
-    "vkCmdCopyBufferToImage": copy_in, "vkCmdCopyBufferToImage2": copy_in,
-    "vkCmdCopyImageToBuffer": copy_out, "vkCmdCopyImageToBuffer2": copy_out,
-    "vkCmdCopyImage": copy_image, "vkCmdCopyImage2": copy_image,
+    "vkCmdFillBuffer": fill_buffer,
+    "vkCmdUpdateBuffer": update_buffer,
+    "vkCmdCopyBuffer": copy_buffer,
+    "vkCmdCopyBuffer2": copy_buffer,
+    "vkCmdCopyBufferToImage": copy_in,
+    "vkCmdCopyBufferToImage2": copy_in,
+    "vkCmdCopyImageToBuffer": copy_out,
+    "vkCmdCopyImageToBuffer2": copy_out,
+    "vkCmdCopyImage": copy_image,
+    "vkCmdCopyImage2": copy_image,
     "vkCmdClearColorImage": clear_image,
-    "vkCmdPipelineBarrier": barrier, "vkCmdPipelineBarrier2": barrier,
-    "vkCmdSetEvent": set_event, "vkCmdSetEvent2": set_event,
-    "vkCmdWaitEvents": await_events, "vkCmdWaitEvents2": await_events,
-    "vkCmdBeginRenderPass": begin_pass, "vkCmdBeginRenderPass2": begin_pass,
-    "vkCmdEndRenderPass": end_pass, "vkCmdEndRenderPass2": end_pass,
+    "vkCmdPipelineBarrier": barrier,
+    "vkCmdPipelineBarrier2": barrier,
+    "vkCmdSetEvent": set_event,
+    "vkCmdSetEvent2": set_event,
+    "vkCmdWaitEvents": await_events,
+    "vkCmdWaitEvents2": await_events,
+    "vkCmdBeginRenderPass": begin_pass,
+    "vkCmdBeginRenderPass2": begin_pass,
+    "vkCmdEndRenderPass": end_pass,
+    "vkCmdEndRenderPass2": end_pass,
 }
 PASSES = (begin_pass, end_pass)
 

@@ -31,11 +31,15 @@ ON_HOST = ["barrier", [[0x1000, 0x1000, 0x4000, 0x6000]], [], []]
 
 EARLIER = "the host wrote these bytes before it"
 FLUSHED_EARLIER = "the host flushed these bytes before it"
-FILLED = ("many bytes that the host wrote at once are a fill with zeros, on the other queue of the family, in the"
-          " place of a write; buffers as large have the usage TRANSFER_DST for it")
+FILLED = (
+    "many bytes that the host wrote at once are a fill with zeros, on the other queue of the family, in the"
+    " place of a write; buffers as large have the usage TRANSFER_DST for it"
+)
 IMPORTED = "the host wrote all of the imported memory that commands read, as zeros, before the first of them"
 MIXED = "what the host wrote over bytes of commands isn't told apart from what these wrote, and is left out"
-TOO_MANY = f"the host's writes of the trace would be more than {MOST_WRITTEN} bytes with those to it"
+TOO_MANY = (
+    f"the host's writes of the trace would be more than {MOST_WRITTEN} bytes with those to it"
+)
 
 
 class Shadow:
@@ -207,7 +211,13 @@ def reads_after_wait(world):
             low, high = 0, buffer.size
             if memory.mapping and world.reads != "all":
                 low, high = (max(0, edge - buffer.offset) for edge in memory.mapping[:2])
-            put_reads(world, buffer, low, high, "the host reads what commands wrote after it waits for them")
+            put_reads(
+                world,
+                buffer,
+                low,
+                high,
+                "the host reads what commands wrote after it waits for them",
+            )
 
 
 def put_reads(world, buffer, low, high, why, marks=None):
@@ -216,7 +226,11 @@ def put_reads(world, buffer, low, high, why, marks=None):
     taken, left, busy = [], [], []
     for part in buffer.unread:
         batch, start, end = part
-        is_ready = world.queues.is_complete(batch) or marks is not None and world.queues.is_before(batch, marks)
+        is_ready = (
+            world.queues.is_complete(batch)
+            or marks is not None
+            and world.queues.is_before(batch, marks)
+        )
         if not is_ready:
             busy.append((start, end))
         (taken if is_ready and low < end and start < high else left).append(part)

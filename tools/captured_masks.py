@@ -18,20 +18,35 @@ WHOLE = 0xFFFFFFFFFFFFFFFF
 REMAINING = 0xFFFFFFFF
 
 STAGE_NAMES = {
-    "NONE": 0, "TOP_OF_PIPE": TOP, "BOTTOM_OF_PIPE": BOTTOM, "HOST": HOST, "ALL_COMMANDS": ALL_COMMANDS,
-    "TRANSFER": TRANSFER, "ALL_TRANSFER": TRANSFER, "COPY": TRANSFER, "CLEAR": TRANSFER,
-    "BLIT": TRANSFER, "RESOLVE": TRANSFER,
+    "NONE": 0,
+    "TOP_OF_PIPE": TOP,
+    "BOTTOM_OF_PIPE": BOTTOM,
+    "HOST": HOST,
+    "ALL_COMMANDS": ALL_COMMANDS,
+    "TRANSFER": TRANSFER,
+    "ALL_TRANSFER": TRANSFER,
+    "COPY": TRANSFER,
+    "CLEAR": TRANSFER,
+    "BLIT": TRANSFER,
+    "RESOLVE": TRANSFER,
 }
 ACCESS_NAMES = {
-    "NONE": 0, "TRANSFER_READ": 0x800, "TRANSFER_WRITE": 0x1000, "HOST_READ": 0x2000,
-    "HOST_WRITE": 0x4000, "MEMORY_READ": 0x8000, "MEMORY_WRITE": 0x10000,
+    "NONE": 0,
+    "TRANSFER_READ": 0x800,
+    "TRANSFER_WRITE": 0x1000,
+    "HOST_READ": 0x2000,
+    "HOST_WRITE": 0x4000,
+    "MEMORY_READ": 0x8000,
+    "MEMORY_WRITE": 0x10000,
 }
 FLAG = re.compile(r"VK_(?:PIPELINE_STAGE|ACCESS)_(?:2_)?(\w+?)(?:_BIT)?(?:_KHR|_EXT|_NV)?$")
 OTHER_STAGE = 0x80
 
 LAYOUTS = {
-    "VK_IMAGE_LAYOUT_UNDEFINED": 0, "VK_IMAGE_LAYOUT_PREINITIALIZED": 0,
-    "VK_IMAGE_LAYOUT_GENERAL": 1, "VK_IMAGE_LAYOUT_TRANSFER_SRC_OPTIMAL": 6,
+    "VK_IMAGE_LAYOUT_UNDEFINED": 0,
+    "VK_IMAGE_LAYOUT_PREINITIALIZED": 0,
+    "VK_IMAGE_LAYOUT_GENERAL": 1,
+    "VK_IMAGE_LAYOUT_TRANSFER_SRC_OPTIMAL": 6,
     "VK_IMAGE_LAYOUT_TRANSFER_DST_OPTIMAL": 7,
 }
 GENERAL = 1
@@ -61,8 +76,10 @@ def stages(value, is_first):
 
 def has_other_stages(value):
     """Whether a mask has stages that a trace doesn't have."""
-    return bool(mask_of(value, STAGE_NAMES, OTHER_STAGE)
-                & ~(TRANSFER | HOST | ALL_COMMANDS | TRANSFERS_2 | TOP | BOTTOM))
+    return bool(
+        mask_of(value, STAGE_NAMES, OTHER_STAGE)
+        & ~(TRANSFER | HOST | ALL_COMMANDS | TRANSFERS_2 | TOP | BOTTOM)
+    )
 
 
 def accesses(value):
@@ -88,10 +105,19 @@ class Format(NamedTuple):
 NAMES = {1: "R8_UINT", 2: "R16_UINT", 4: "R32_UINT", 8: "R32G32_UINT", 16: "R32G32B32A32_UINT"}
 NAMES_8 = {1: "R8_UINT", 2: "R8G8_UINT", 4: "R8G8B8A8_UINT"}
 # The bytes of a component of each format of the trace.
-COMPONENT = {"R8_UINT": 1, "R8G8_UINT": 1, "R8G8B8A8_UINT": 1, "R16_UINT": 2, "R32_UINT": 4,
-             "R32G32_UINT": 4, "R32G32B32A32_UINT": 4}
-COLOR = re.compile(r"VK_FORMAT_((?:[RGBAEX]\d+)+)_(UNORM|SNORM|USCALED|SSCALED|UINT|SINT|SFLOAT|UFLOAT|SRGB)"
-                   r"(_PACK\d+)?$")
+COMPONENT = {
+    "R8_UINT": 1,
+    "R8G8_UINT": 1,
+    "R8G8B8A8_UINT": 1,
+    "R16_UINT": 2,
+    "R32_UINT": 4,
+    "R32G32_UINT": 4,
+    "R32G32B32A32_UINT": 4,
+}
+COLOR = re.compile(
+    r"VK_FORMAT_((?:[RGBAEX]\d+)+)_(UNORM|SNORM|USCALED|SSCALED|UINT|SINT|SFLOAT|UFLOAT|SRGB)"
+    r"(_PACK\d+)?$"
+)
 
 
 def format_of(name):

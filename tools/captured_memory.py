@@ -1,15 +1,31 @@
 """Memory of a captured program: what is bound to it, its mappings, flushes and invalidations."""
 
-from captured_host import (CACHED_TYPE, COHERENT_TYPE, FLUSHED, FRESH, IN_TRACE, PENDING, TARGET_USAGE, ensure_mapped,
-                           host_wrote, is_many, parts_in, put_reads, shadow_of, unmap)
+from captured_host import (
+    CACHED_TYPE,
+    COHERENT_TYPE,
+    FLUSHED,
+    FRESH,
+    IN_TRACE,
+    PENDING,
+    TARGET_USAGE,
+    ensure_mapped,
+    host_wrote,
+    is_many,
+    parts_in,
+    put_reads,
+    shadow_of,
+    unmap,
+)
 from captured_masks import WHOLE
 from captured_state import MOST_MEMORY, Memory
 
 LOCAL, VISIBLE, COHERENT = 1, 2, 4
 
 HOST_ACCESS = "the host may access the image, which a trace can't say"
-NO_BLOCKS = ("what the host wrote to mapped memory isn't in the JSON: until a command writes them, all mapped"
-             " bytes count as written by the host, as zeros")
+NO_BLOCKS = (
+    "what the host wrote to mapped memory isn't in the JSON: until a command writes them, all mapped"
+    " bytes count as written by the host, as zeros"
+)
 OUTSIDE = "its memory is shared with what is outside"
 
 
@@ -34,12 +50,16 @@ def allocate(world, call):
     info = call.args["pAllocateInfo"]
     flags = world.device(call.args["device"]).types.get(info["memoryTypeIndex"])
     if flags is None:
-        world.summary.note("memory of a type whose properties the program didn't ask for is host visible")
+        world.summary.note(
+            "memory of a type whose properties the program didn't ask for is host visible"
+        )
         flags = VISIBLE | COHERENT
     kind = 0 if not flags & VISIBLE else COHERENT_TYPE if flags & COHERENT else CACHED_TYPE
     imports = [link["sType"] for link in chain(info) if "_IMPORT_MEMORY_" in link.get("sType", "")]
     is_host = any("HOST_POINTER" in name for name in imports)
-    made = Memory(call.args["pMemory"], info["allocationSize"], kind, bool(flags & VISIBLE), is_host)
+    made = Memory(
+        call.args["pMemory"], info["allocationSize"], kind, bool(flags & VISIBLE), is_host
+    )
     made.is_foreign = bool(imports) and not is_host
     world.memories[made.handle] = made
 
@@ -77,7 +97,9 @@ def bind_buffer(world, handle, memory_handle, offset):
     sharing = "concurrent" if buffer.is_concurrent else "exclusive"
     if memory.is_visible and is_many(world, buffer, buffer.size):
         buffer.usage |= TARGET_USAGE
-    world.emit(["buffer", buffer.id, buffer.size, buffer.usage & 3, sharing, ["dedicated", memory.type]])
+    world.emit(
+        ["buffer", buffer.id, buffer.size, buffer.usage & 3, sharing, ["dedicated", memory.type]]
+    )
     world.grow_heap(memory.type, buffer.size)
     if memory.is_imported:
         shadow_of(buffer).state[:] = bytes([FLUSHED]) * buffer.size
@@ -104,7 +126,9 @@ def map_memory(world, call):
             state = shadow_of(buffer).state
             state[low:high] = state[low:high].replace(bytes([FRESH]), bytes([PENDING]))
         if buffer.type == COHERENT_TYPE:
-            put_reads(world, buffer, low, high, "the host reads what commands wrote when it maps it")
+            put_reads(
+                world, buffer, low, high, "the host reads what commands wrote when it maps it"
+            )
 
 
 def unmap_memory(world, call):
@@ -119,9 +143,18 @@ def end_mapping(world, memory):
     offset, end, marks = memory.mapping
     for buffer, low, high in parts_in(memory, offset, end):
         if not memory.is_written:
-            put_reads(world, buffer, low, high, "the host reads what commands wrote before it unmaps it", marks)
+            put_reads(
+                world,
+                buffer,
+                low,
+                high,
+                "the host reads what commands wrote before it unmaps it",
+                marks,
+            )
         elif buffer.type == CACHED_TYPE:
-            put_reads(world, buffer, low, high, "the host reads what commands wrote before it unmaps it")
+            put_reads(
+                world, buffer, low, high, "the host reads what commands wrote before it unmaps it"
+            )
         unmap(world, buffer)
     memory.mapping = None
 
@@ -155,7 +188,13 @@ def invalidate(world, call):
         if buffer.type == CACHED_TYPE and buffer.shadow is not None:
             ensure_mapped(world, buffer)
             world.emit(["invalidate", buffer.id, low, high - low])
-            put_reads(world, buffer, low, high, "the host reads what commands wrote after it invalidates it")
+            put_reads(
+                world,
+                buffer,
+                low,
+                high,
+                "the host reads what commands wrote after it invalidates it",
+            )
 
 
 def free(world, call):
@@ -171,7 +210,12 @@ def end_resource(world, part):
     """A resource ends: the host has read what it does read of it."""
     if part.memory is not None and not part.is_ended:
         part.memory.places.remove(part.offset, part.offset + max(part.extent, 1), part)
-    if part.kind == "buffer" and part.is_judged and part.type == CACHED_TYPE and part.memory.mapping:
+    if (
+        part.kind == "buffer"
+        and part.is_judged
+        and part.type == CACHED_TYPE
+        and part.memory.mapping
+    ):
         put_reads(world, part, 0, part.size, "the host reads what commands wrote before its end")
     if part.id is not None and not part.is_ended:
         if part.kind == "buffer":

@@ -32,7 +32,10 @@ def image_fault(info, form):
         return f"its format {info['format']}"
     if info["tiling"] not in ("VK_IMAGE_TILING_OPTIMAL", "VK_IMAGE_TILING_LINEAR"):
         return f"its tiling {info['tiling']}"
-    if info["tiling"] == "VK_IMAGE_TILING_LINEAR" and (info["mipLevels"], info["arrayLayers"]) != (1, 1):
+    if info["tiling"] == "VK_IMAGE_TILING_LINEAR" and (info["mipLevels"], info["arrayLayers"]) != (
+        1,
+        1,
+    ):
         return "it is linear, with several levels or layers"
     if max(extent["width"], extent["height"]) > MOST_SIDE or info["arrayLayers"] > MOST_LAYERS:
         return f"its sides or layers are over {MOST_SIDE} or {MOST_LAYERS}"
@@ -84,9 +87,20 @@ def bind_image(world, handle, memory_handle, offset):
         return
     image.id = world.trace.new_id()
     image.is_concurrent = image.is_concurrent or handle in world.shared
-    world.emit(["image", image.id, image.form.name, *image.sides, image.levels, image.layers,
-                "linear" if image.is_linear else "optimal", image.usage & 3,
-                "concurrent" if image.is_concurrent else "exclusive", ["dedicated", 0]])
+    world.emit(
+        [
+            "image",
+            image.id,
+            image.form.name,
+            *image.sides,
+            image.levels,
+            image.layers,
+            "linear" if image.is_linear else "optimal",
+            image.usage & 3,
+            "concurrent" if image.is_concurrent else "exclusive",
+            ["dedicated", 0],
+        ]
+    )
     world.grow_heap(0, image.size)
 
 

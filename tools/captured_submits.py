@@ -14,9 +14,11 @@ from captured_blocks import Bad
 
 QUEUES_OF = ((0, 1), (2, 3))
 GRAPHICS_OR_COMPUTE = 3
-ANY = ("a wait for any of several fences or semaphores counts as a wait for all of them")
-UNKNOWN = ("a wait for a semaphore that is signaled outside of what is judged counts as a wait for all that was"
-           " submitted before")
+ANY = "a wait for any of several fences or semaphores counts as a wait for all of them"
+UNKNOWN = (
+    "a wait for a semaphore that is signaled outside of what is judged counts as a wait for all that was"
+    " submitted before"
+)
 MERGED = "several queues of the program are one in the trace, which has two of each family"
 ONE_FAMILY = "families of queues with graphics or compute are one in the trace"
 EXPORTED = "what is waited for by handles outside of Vulkan isn't seen"
@@ -91,8 +93,11 @@ class Queues:
 
     def submitted(self):
         """The payload of all that is submitted so far."""
-        return [(queue.semaphore, queue.count, (queue.number, queue.count))
-                for queue in self.queues if queue.count]
+        return [
+            (queue.semaphore, queue.count, (queue.number, queue.count))
+            for queue in self.queues
+            if queue.count
+        ]
 
     def marks(self):
         """How many batches each queue has so far."""
@@ -194,8 +199,12 @@ def commands_of(world, handles):
 def batch_parts(info):
     """The waits, command buffers and signals of a batch, of both generations."""
     if "pCommandBufferInfos" in info:
+
         def listed(name):
-            return [(part["semaphore"], part["value"], part["stageMask"]) for part in info[name] or []]
+            return [
+                (part["semaphore"], part["value"], part["stageMask"]) for part in info[name] or []
+            ]
+
         handles = [part["commandBuffer"] for part in info["pCommandBufferInfos"] or []]
         return listed("pWaitSemaphoreInfos"), handles, listed("pSignalSemaphoreInfos")
     values = next((link for link in chain(info) if "pSignalSemaphoreValues" in link), {})
@@ -206,10 +215,14 @@ def batch_parts(info):
         masks = masks if masks is not None else [ALL_COMMANDS] * len(semaphores)
         return list(zip(semaphores, numbers, masks))
 
-    waits = zipped(info["pWaitSemaphores"], values.get("pWaitSemaphoreValues"),
-                   info.get("pWaitDstStageMask"))
-    return waits, info.get("pCommandBuffers") or [], zipped(
-        info["pSignalSemaphores"], values.get("pSignalSemaphoreValues"), None)
+    waits = zipped(
+        info["pWaitSemaphores"], values.get("pWaitSemaphoreValues"), info.get("pWaitDstStageMask")
+    )
+    return (
+        waits,
+        info.get("pCommandBuffers") or [],
+        zipped(info["pSignalSemaphores"], values.get("pSignalSemaphoreValues"), None),
+    )
 
 
 def batch_of(world, queue, info):
@@ -243,7 +256,9 @@ def translated_call(world, call, context):
     try:
         return translated(world, call, context)
     except (KeyError, TypeError, ValueError, AttributeError, IndexError) as error:
-        raise Bad(f"{call}: its arguments aren't as expected: {type(error).__name__} {error}") from error
+        raise Bad(
+            f"{call}: its arguments aren't as expected: {type(error).__name__} {error}"
+        ) from error
 
 
 def signal_of(world, queue, batch, signal):
@@ -270,19 +285,28 @@ def submit(world, call):
     if made:
         batches = [batch for batch, _ in made]
         points = 1 + sum(len(part) for batch in batches for part in batch)
-        world.trace.add(["submit", queue.number, batches], call, None, [part for _, part in made], points)
+        world.trace.add(
+            ["submit", queue.number, batches], call, None, [part for _, part in made], points
+        )
     fence = call.args["fence"]
     if isinstance(fence, int):
         batch = (queue.number, queue.count)
-        world.semaphores.payloads[fence] = [(queue.semaphore, queue.count, batch)] if queue.count else []
+        world.semaphores.payloads[fence] = (
+            [(queue.semaphore, queue.count, batch)] if queue.count else []
+        )
 
 
 def wait_fences(world, call):
     """vkWaitForFences."""
     if not call.args["waitAll"] and len(call.args["pFences"]) > 1:
         world.summary.note(ANY)
-    world.semaphores.wait([part for fence in call.args["pFences"]
-                           for part in world.semaphores.payloads.get(fence, [])])
+    world.semaphores.wait(
+        [
+            part
+            for fence in call.args["pFences"]
+            for part in world.semaphores.payloads.get(fence, [])
+        ]
+    )
 
 
 def fence_status(world, call):

@@ -23,7 +23,9 @@ class World:
         self.updates = blocks.updates if blocks else {}
         self.trace, self.summary = Trace(), Summary()
         if blocks and blocks.ends_within:
-            self.summary.note(f"the program ended within a call: the capture ends within {blocks.ends_within}")
+            self.summary.note(
+                f"the program ended within a call: the capture ends within {blocks.ends_within}"
+            )
         self.resources, self.memories, self.names = {}, {}, {}
         self.physical, self.devices, self.families, self.passes = defaultdict(Physical), {}, {}, {}
         self.recordings, self.events, self.event_waits = {}, {}, {}
@@ -114,9 +116,11 @@ def is_whole(created, part):
     if "buffer" in part:
         return part["offset"] == 0 and part["size"] in (WHOLE, created["size"])
     area = part["subresourceRange"]
-    return (area["baseMipLevel"] == area["baseArrayLayer"] == 0
-            and area["levelCount"] in (REMAINING, created["mipLevels"])
-            and area["layerCount"] in (REMAINING, created["arrayLayers"]))
+    return (
+        area["baseMipLevel"] == area["baseArrayLayer"] == 0
+        and area["levelCount"] in (REMAINING, created["mipLevels"])
+        and area["layerCount"] in (REMAINING, created["arrayLayers"])
+    )
 
 
 def look_ahead(world, calls):
@@ -125,14 +129,18 @@ def look_ahead(world, calls):
     for call in calls:
         try:
             if call.name in ("vkCreateBuffer", "vkCreateImage"):
-                created[call.args.get("pBuffer", call.args.get("pImage"))] = call.args["pCreateInfo"]
+                created[call.args.get("pBuffer", call.args.get("pImage"))] = call.args[
+                    "pCreateInfo"
+                ]
             elif call.name == "vkCmdWaitEvents":
                 for event in call.args["pEvents"]:
                     world.event_waits.setdefault(event, []).append(call.args)
             elif call.name in ("vkCmdPipelineBarrier", "vkCmdPipelineBarrier2"):
                 note_parts(world, created, call.args.get("pDependencyInfo", call.args))
         except (KeyError, TypeError, AttributeError) as error:
-            raise Bad(f"{call}: its arguments aren't as expected: {type(error).__name__} {error}") from error
+            raise Bad(
+                f"{call}: its arguments aren't as expected: {type(error).__name__} {error}"
+            ) from error
 
 
 def note_parts(world, created, info):

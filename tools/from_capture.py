@@ -28,9 +28,26 @@ from captured_world import World, look_ahead
 
 BAD, STOPPED = 1, 3
 # What is noted of the program, and stands for nothing in a trace.
-SILENT = ("vkGet", "vkEnumerate", "vkCreate", "vkDestroy", "vkAllocate", "vkFree", "vkUpdateDescriptor",
-          "vkReset", "vkEnd", "vkTrim", "vkMerge", "vkSetDebug", "vkDebug", "vkQueueBeginDebug",
-          "vkQueueEndDebug", "vkQueueInsertDebug", "vkSetPrivateData", "vkSubmitDebug")
+SILENT = (
+    "vkGet",
+    "vkEnumerate",
+    "vkCreate",
+    "vkDestroy",
+    "vkAllocate",
+    "vkFree",
+    "vkUpdateDescriptor",
+    "vkReset",
+    "vkEnd",
+    "vkTrim",
+    "vkMerge",
+    "vkSetDebug",
+    "vkDebug",
+    "vkQueueBeginDebug",
+    "vkQueueEndDebug",
+    "vkQueueInsertDebug",
+    "vkSetPrivateData",
+    "vkSubmitDebug",
+)
 
 
 def bound_handles(world, call):
@@ -60,25 +77,42 @@ CALLS = {
     "vkGetDeviceQueue2": lambda world, call: world.queues.name(call),
     "vkGetImageMemoryRequirements": resources.requirements,
     "vkGetImageMemoryRequirements2": resources.requirements,
-    "vkCreateDevice": lambda world, call: world.create_device(call), "vkGetMemoryFd": memory.export,
-    "vkAllocateMemory": memory.allocate, "vkFreeMemory": memory.free,
-    "vkMapMemory": memory.map_memory, "vkUnmapMemory": memory.unmap_memory,
-    "vkFlushMappedMemoryRanges": memory.flush, "vkInvalidateMappedMemoryRanges": memory.invalidate,
-    "vkCreateBuffer": resources.created_buffer, "vkCreateImage": resources.created_image,
-    "vkBindBufferMemory": resources.bind_buffers, "vkBindBufferMemory2": resources.bind_buffers,
-    "vkBindImageMemory": resources.bind_images, "vkBindImageMemory2": resources.bind_images,
-    "vkDestroyBuffer": bound_handles, "vkDestroyImage": bound_handles,
-    "vkBeginCommandBuffer": begin, "vkCreateRenderPass": create_pass, "vkCreateRenderPass2": create_pass,
+    "vkCreateDevice": lambda world, call: world.create_device(call),
+    "vkGetMemoryFd": memory.export,
+    "vkAllocateMemory": memory.allocate,
+    "vkFreeMemory": memory.free,
+    "vkMapMemory": memory.map_memory,
+    "vkUnmapMemory": memory.unmap_memory,
+    "vkFlushMappedMemoryRanges": memory.flush,
+    "vkInvalidateMappedMemoryRanges": memory.invalidate,
+    "vkCreateBuffer": resources.created_buffer,
+    "vkCreateImage": resources.created_image,
+    "vkBindBufferMemory": resources.bind_buffers,
+    "vkBindBufferMemory2": resources.bind_buffers,
+    "vkBindImageMemory": resources.bind_images,
+    "vkBindImageMemory2": resources.bind_images,
+    "vkDestroyBuffer": bound_handles,
+    "vkDestroyImage": bound_handles,
+    "vkBeginCommandBuffer": begin,
+    "vkCreateRenderPass": create_pass,
+    "vkCreateRenderPass2": create_pass,
     "vkCreateSemaphore": lambda world, call: world.semaphores.create(call),
     "vkCreateFence": submits.fence_created,
-    "vkQueueSubmit": submits.submit, "vkQueueSubmit2": submits.submit, "vkQueueBindSparse": submits.submit,
-    "vkWaitForFences": submits.wait_fences, "vkGetFenceStatus": submits.fence_status,
-    "vkWaitSemaphores": submits.wait_semaphores, "vkSignalSemaphore": submits.signal,
+    "vkQueueSubmit": submits.submit,
+    "vkQueueSubmit2": submits.submit,
+    "vkQueueBindSparse": submits.submit,
+    "vkWaitForFences": submits.wait_fences,
+    "vkGetFenceStatus": submits.fence_status,
+    "vkWaitSemaphores": submits.wait_semaphores,
+    "vkSignalSemaphore": submits.signal,
     "vkGetSemaphoreCounterValue": submits.counter_value,
-    "vkQueueWaitIdle": submits.queue_idle, "vkDeviceWaitIdle": submits.device_idle,
-    "vkQueuePresent": submits.present, "vkAcquireNextImage": submits.acquire,
+    "vkQueueWaitIdle": submits.queue_idle,
+    "vkDeviceWaitIdle": submits.device_idle,
+    "vkQueuePresent": submits.present,
+    "vkAcquireNextImage": submits.acquire,
     "vkAcquireNextImage2": submits.acquire,
-    "vkImportSemaphoreFd": submits.import_payload, "vkImportFenceFd": submits.import_payload,
+    "vkImportSemaphoreFd": submits.import_payload,
+    "vkImportFenceFd": submits.import_payload,
     "vkSetDebugUtilsObjectNameEXT": debug_name,
 }
 # These are done, and are no calls that the trace has.
@@ -120,7 +154,9 @@ def convert(calls, blocks, reads):
                     take(world, part)
             except (KeyError, TypeError, ValueError, AttributeError, IndexError) as error:
                 what = f"block {part.index}" if isinstance(part, Fill) else str(part)
-                raise Bad(f"{what}: its arguments aren't as expected: {type(error).__name__} {error}") from error
+                raise Bad(
+                    f"{what}: its arguments aren't as expected: {type(error).__name__} {error}"
+                ) from error
     except Stop as reason:
         world.summary.stopped = str(reason)
     return world
@@ -174,11 +210,21 @@ def parsed():
     """The command line."""
     parser = argparse.ArgumentParser(description="Makes a trace of a capture of GFXReconstruct.")
     parser.add_argument("capture", nargs="?", metavar="CAPTURE.gfxr")
-    parser.add_argument("--json", metavar="FILE.jsonl", help="a JSON that gfxrecon-convert made of it")
-    parser.add_argument("--reads", choices=("all", "none", "mapped"), default="mapped",
-                        help="which reads of the host are put in (mapped)")
-    parser.add_argument("--names", metavar="FILE", help="write the call of each entry and command here")
-    parser.add_argument("--where", metavar="POINT", help="print the call of this point, by the file of --names")
+    parser.add_argument(
+        "--json", metavar="FILE.jsonl", help="a JSON that gfxrecon-convert made of it"
+    )
+    parser.add_argument(
+        "--reads",
+        choices=("all", "none", "mapped"),
+        default="mapped",
+        help="which reads of the host are put in (mapped)",
+    )
+    parser.add_argument(
+        "--names", metavar="FILE", help="write the call of each entry and command here"
+    )
+    parser.add_argument(
+        "--where", metavar="POINT", help="print the call of this point, by the file of --names"
+    )
     options = parser.parse_args()
     if options.where is not None:
         if not options.names or options.capture or options.json:
