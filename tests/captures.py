@@ -103,6 +103,8 @@ KEPT_CASES = {
     "no_invalidation": [(None, ALL_BYTES), ("HAZARD_RAW", READ_AT_UNMAP)],
     "write_in_use": [("HAZARD_WAR", "(a write of the host)")] * 2,
     "destroyed_in_use": [("IN_USE", "vkDestroyBuffer")] * 2,
+    "ring": [(None, "41" * 128 + "51" * 128), ("HAZARD_RAW", "vkCmdCopyBuffer")],
+    "ring_no_wait": [("HAZARD_WAR", "(a write of the host)"), ("HAZARD_RAW", "vkCmdCopyBuffer")],
 }
 
 

@@ -25,6 +25,8 @@ COHERENT_TYPE, CACHED_TYPE = 1, 2
 TARGET_USAGE = 2
 # A write of so many bytes is a fill, where their values aren't known, and where they are.
 MANY_UNKNOWN, MANY = 4096, 262144
+# So many ranges that the host hasn't read are joined.
+MANY_RANGES = 256
 # The bytes of all writes of a trace.
 MOST_WRITTEN = 6291456
 ON_HOST = ["barrier", [[0x1000, 0x1000, 0x4000, 0x6000]], [], []]
@@ -189,7 +191,19 @@ def commands_write(world, buffer, ranges, batch):
         state[low:high] = bytes([OF_COMMAND]) * (high - low)
         if world.reads != "none":
             buffer.unread.append((batch, low, high))
-            world.unread[buffer.handle] = buffer
+            if len(buffer.unread) % MANY_RANGES == 0:
+                join_complete(world, buffer)
+            if world.reads == "all" or buffer.memory.mapping or buffer.memory.is_imported:
+                world.unread[buffer.handle] = buffer
+
+
+def join_complete(world, buffer):
+    """Joins the ranges that are known complete, of many that the host hasn't read."""
+    complete = [part for part in buffer.unread if world.queues.is_complete(part[0])]
+    if complete:
+        left = [part for part in buffer.unread if not world.queues.is_complete(part[0])]
+        spans = joined((low, high) for _, low, high in complete)
+        buffer.unread = [(complete[-1][0], low, high) for low, high in spans] + left
 
 
 def unmap(world, buffer):

@@ -121,6 +121,8 @@ def map_memory(world, call):
         if part.kind == "image" and part.is_linear:
             world.make_opaque(part, HOST_ACCESS)
     for buffer, low, high in parts_in(memory, offset, end):
+        if buffer.unread:
+            world.unread[buffer.handle] = buffer
         if not world.has_blocks:
             world.summary.note(NO_BLOCKS, 0)
             state = shadow_of(buffer).state

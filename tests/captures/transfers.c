@@ -5,7 +5,8 @@
  *
  * The case is what it does otherwise than it should: no_flush, no_barrier, no_host_barrier, write_in_use,
  * no_wait, no_invalidation or destroyed_in_use. `second_generation` is right, with synchronization2, an
- * update and a fill; any other word is right.
+ * update and a fill. `ring` has two frames in flight, and `ring_no_wait` writes slots that are in use. Any
+ * other word is right.
  */
 #include <stdio.h>
 #include <stdlib.h>
@@ -25,6 +26,7 @@
 static VkPhysicalDevice gpu;
 static VkDevice device;
 static VkQueue queue;
+static VkCommandPool pool;
 static VkCommandBuffer commands;
 
 typedef struct {
@@ -51,7 +53,6 @@ static void open_device(int is_second_generation) {
     VkPhysicalDeviceMemoryProperties properties;
     vkGetPhysicalDeviceMemoryProperties(gpu, &properties);
     VkCommandPoolCreateInfo of_pool = {VK_STRUCTURE_TYPE_COMMAND_POOL_CREATE_INFO};
-    VkCommandPool pool;
     NEED(vkCreateCommandPool(device, &of_pool, NULL, &pool));
     VkCommandBufferAllocateInfo of_commands = {
         VK_STRUCTURE_TYPE_COMMAND_BUFFER_ALLOCATE_INFO, .commandPool = pool, .commandBufferCount = 1};
@@ -100,11 +101,50 @@ static void submit(int is_second, VkFence fence) {
     NEED(is_second ? vkQueueSubmit2(queue, 1, &second, fence) : vkQueueSubmit(queue, 1, &first, fence));
 }
 
+/* Two slots of one buffer that stays mapped, in the same page, for six frames: the host writes one while the
+ * commands of the frame before copy the other. */
+static void ring(int is_waited) {
+    Buffer slots = make_buffer(), to = make_buffer();
+    unsigned char *bytes = map(slots);
+    VkFenceCreateInfo of_fence = {
+        VK_STRUCTURE_TYPE_FENCE_CREATE_INFO, .flags = VK_FENCE_CREATE_SIGNALED_BIT};
+    VkCommandBuffer frames[6];
+    VkCommandBufferAllocateInfo of_frames = {VK_STRUCTURE_TYPE_COMMAND_BUFFER_ALLOCATE_INFO,
+        .commandPool = pool, .commandBufferCount = 6};
+    NEED(vkAllocateCommandBuffers(device, &of_frames, frames));
+    VkFence fences[2];
+    for (int i = 0; i < 2; i++) NEED(vkCreateFence(device, &of_fence, NULL, &fences[i]));
+    for (int frame = 0; frame < 6; frame++) {
+        int slot = frame % 2, offset = slot * SIZE / 2;
+        if (is_waited) NEED(vkWaitForFences(device, 1, &fences[slot], 1, UINT64_MAX));
+        memset(bytes + offset, 16 * frame + 1, SIZE / 2);
+        if (is_waited) NEED(vkResetFences(device, 1, &fences[slot]));
+        commands = frames[frame];
+        VkCommandBufferBeginInfo begin = {VK_STRUCTURE_TYPE_COMMAND_BUFFER_BEGIN_INFO};
+        NEED(vkBeginCommandBuffer(commands, &begin));
+        VkBufferCopy part = {offset, offset, SIZE / 2};
+        barrier(0, VK_PIPELINE_STAGE_TRANSFER_BIT, VK_ACCESS_TRANSFER_WRITE_BIT);
+        vkCmdCopyBuffer(commands, slots.handle, to.handle, 1, &part);
+        barrier(0, VK_PIPELINE_STAGE_HOST_BIT, VK_ACCESS_HOST_READ_BIT);
+        NEED(vkEndCommandBuffer(commands));
+        submit(0, is_waited ? fences[slot] : VK_NULL_HANDLE);
+    }
+    NEED(vkDeviceWaitIdle(device));
+    unsigned char *read = map(to);
+    printf("%02x %02x\n", read[0], read[SIZE / 2]);
+    vkUnmapMemory(device, to.memory);
+    vkUnmapMemory(device, slots.memory);
+}
+
 int main(int count, char **words) {
     const char *word = count > 1 ? words[1] : "";
 #define IS(text) (strcmp(word, text) == 0)
     int is_second = IS("second_generation");
     open_device(is_second);
+    if (IS("ring") || IS("ring_no_wait")) {
+        ring(IS("ring"));
+        return 0;
+    }
     Buffer from = make_buffer(), between = make_buffer(), to = make_buffer();
     unsigned char *bytes = map(from);
     for (int i = 0; i < SIZE; i++) bytes[i] = i;
