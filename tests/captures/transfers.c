@@ -3,10 +3,10 @@
  *     cc transfers.c -lvulkan -o transfers
  *     ./transfers CASE
  *
- * The case is what it does otherwise than it should: no_flush, no_barrier, no_host_barrier, write_in_use,
- * no_wait, no_invalidation or destroyed_in_use. `second_generation` is right, with synchronization2, an
- * update and a fill. `ring` has two frames in flight, and `ring_no_wait` writes slots that are in use. Any
- * other word is right.
+ * The case is what it does otherwise than it should: no_flush, no_barrier, no_host_barrier, no_wait,
+ * write_in_use, no_invalidation or destroyed_in_use (which may crash). `second_generation` is right,
+ * with synchronization2, an update and a fill. `ring` has two frames in flight, and `ring_no_wait`
+ * writes slots that are in use. Any other word is right.
  */
 #include <stdio.h>
 #include <stdlib.h>
@@ -36,7 +36,8 @@ typedef struct {
 
 static void open_device(int is_second_generation) {
     VkApplicationInfo app = {VK_STRUCTURE_TYPE_APPLICATION_INFO, .apiVersion = VK_API_VERSION_1_3};
-    VkInstanceCreateInfo of_instance = {VK_STRUCTURE_TYPE_INSTANCE_CREATE_INFO, .pApplicationInfo = &app};
+    VkInstanceCreateInfo of_instance = {
+        VK_STRUCTURE_TYPE_INSTANCE_CREATE_INFO, .pApplicationInfo = &app};
     VkInstance instance;
     NEED(vkCreateInstance(&of_instance, NULL, &instance));
     uint32_t count = 1;
@@ -45,7 +46,8 @@ static void open_device(int is_second_generation) {
     VkDeviceQueueCreateInfo of_queue = {
         VK_STRUCTURE_TYPE_DEVICE_QUEUE_CREATE_INFO, .queueCount = 1, .pQueuePriorities = &priority};
     VkPhysicalDeviceVulkan13Features features = {
-        VK_STRUCTURE_TYPE_PHYSICAL_DEVICE_VULKAN_1_3_FEATURES, .synchronization2 = is_second_generation};
+        VK_STRUCTURE_TYPE_PHYSICAL_DEVICE_VULKAN_1_3_FEATURES,
+        .synchronization2 = is_second_generation};
     VkDeviceCreateInfo of_device = {VK_STRUCTURE_TYPE_DEVICE_CREATE_INFO, .pNext = &features,
         .queueCreateInfoCount = 1, .pQueueCreateInfos = &of_queue};
     NEED(vkCreateDevice(gpu, &of_device, NULL, &device));
@@ -54,8 +56,8 @@ static void open_device(int is_second_generation) {
     vkGetPhysicalDeviceMemoryProperties(gpu, &properties);
     VkCommandPoolCreateInfo of_pool = {VK_STRUCTURE_TYPE_COMMAND_POOL_CREATE_INFO};
     NEED(vkCreateCommandPool(device, &of_pool, NULL, &pool));
-    VkCommandBufferAllocateInfo of_commands = {
-        VK_STRUCTURE_TYPE_COMMAND_BUFFER_ALLOCATE_INFO, .commandPool = pool, .commandBufferCount = 1};
+    VkCommandBufferAllocateInfo of_commands = {VK_STRUCTURE_TYPE_COMMAND_BUFFER_ALLOCATE_INFO,
+        .commandPool = pool, .commandBufferCount = 1};
     NEED(vkAllocateCommandBuffers(device, &of_commands, &commands));
 }
 
@@ -64,7 +66,8 @@ static Buffer make_buffer(void) {
     VkBufferCreateInfo of_buffer = {VK_STRUCTURE_TYPE_BUFFER_CREATE_INFO, .size = SIZE,
         .usage = VK_BUFFER_USAGE_TRANSFER_SRC_BIT | VK_BUFFER_USAGE_TRANSFER_DST_BIT};
     NEED(vkCreateBuffer(device, &of_buffer, NULL, &made.handle));
-    VkMemoryAllocateInfo of_memory = {VK_STRUCTURE_TYPE_MEMORY_ALLOCATE_INFO, .allocationSize = SIZE};
+    VkMemoryAllocateInfo of_memory = {
+        VK_STRUCTURE_TYPE_MEMORY_ALLOCATE_INFO, .allocationSize = SIZE};
     NEED(vkAllocateMemory(device, &of_memory, NULL, &made.memory));
     NEED(vkBindBufferMemory(device, made.handle, made.memory, 0));
     return made;
@@ -78,7 +81,8 @@ static void *map(Buffer buffer) {
 
 static void barrier(int is_second, int stage, int access) {
     VkMemoryBarrier2 second = {VK_STRUCTURE_TYPE_MEMORY_BARRIER_2,
-        .srcStageMask = VK_PIPELINE_STAGE_2_COPY_BIT, .srcAccessMask = VK_ACCESS_2_TRANSFER_WRITE_BIT,
+        .srcStageMask = VK_PIPELINE_STAGE_2_COPY_BIT,
+        .srcAccessMask = VK_ACCESS_2_TRANSFER_WRITE_BIT,
         .dstStageMask = stage, .dstAccessMask = access};
     VkDependencyInfo dependency = {
         VK_STRUCTURE_TYPE_DEPENDENCY_INFO, .memoryBarrierCount = 1, .pMemoryBarriers = &second};
@@ -98,11 +102,12 @@ static void submit(int is_second, VkFence fence) {
         .pCommandBufferInfos = &part};
     VkSubmitInfo first = {
         VK_STRUCTURE_TYPE_SUBMIT_INFO, .commandBufferCount = 1, .pCommandBuffers = &commands};
-    NEED(is_second ? vkQueueSubmit2(queue, 1, &second, fence) : vkQueueSubmit(queue, 1, &first, fence));
+    NEED(is_second ? vkQueueSubmit2(queue, 1, &second, fence)
+                   : vkQueueSubmit(queue, 1, &first, fence));
 }
 
-/* Two slots of one buffer that stays mapped, in the same page, for six frames: the host writes one while the
- * commands of the frame before copy the other. */
+/* Two slots of one buffer that stays mapped, in the same page, for six frames: the host writes one
+ * while the commands of the frame before copy the other. */
 static void ring(int is_waited) {
     Buffer slots = make_buffer(), to = make_buffer();
     unsigned char *bytes = map(slots);
