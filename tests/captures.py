@@ -3,10 +3,11 @@
 
     PROGRAM=FILE EXPLAIN=FILE tests/captures.py [WORD]
 
-With WORD only those tests run whose names have it. The captures are of tests/captures/transfers.c, once right and
-once for each fault, of ffmpeg and of vkcube, each with the JSON of gfxrecon-convert; what few drivers have is in
-captures of programs that aren't run (orders.py and resources.py there). Each trace has to be accepted, or refused by the
-rule that is named, at the call that is named. What needs gfxrecon-convert is skipped where it isn't installed.
+With WORD only those tests run whose names have it. The captures are of tests/captures/transfers.c, right and
+with each fault, of ffmpeg and of vkcube, each with the JSON of gfxrecon-convert; what few drivers have is in
+captures of programs that aren't run (orders.py and resources.py there). Each trace has to be accepted, or refused
+by the rule that is named, at the call that is named. What needs gfxrecon-convert is skipped where it isn't
+installed.
 """
 
 import gzip
@@ -86,7 +87,7 @@ def case_tests():
         yield Test(f"made: {name}", lambda make=make: case_fault(make))
 
 
-# ---- the captures of transfers.c: the rule and the call of each fault, where memory is coherent and where it isn't
+# ---- the captures of transfers.c: the rule and the call of each fault, in coherent memory and in other
 
 READ_AT_MAP = "vkMapMemory (the host reads what commands wrote when it maps it)"
 READ_AT_UNMAP = "vkUnmapMemory (the host reads what commands wrote before it unmaps it)"
@@ -109,7 +110,7 @@ KEPT_CASES = {
 
 
 def kept_fault(name, is_cached):
-    """What differs for a capture of transfers.c, with its device's memory as it was or as if it weren't coherent."""
+    """What differs for a capture of transfers.c, as it was or as if its memory weren't coherent."""
     with folder() as room:
         path = room / "kept.jsonl"
         text = gzip.decompress((KEPT / f"{name}.jsonl.gz").read_bytes())

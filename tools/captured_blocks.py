@@ -37,8 +37,8 @@ class Fill(NamedTuple):
 
 
 class Blocks(NamedTuple):
-    """What is read of a capture: the host's writes, the bytes of each vkCmdUpdateBuffer by its index, and the block
-    that isn't whole, where the program was ended before the capture."""
+    """What is read of a capture: the host's writes, the bytes of each vkCmdUpdateBuffer by its index, and
+    the block that isn't whole, where the program was ended before the capture."""
 
     fills: List[Fill]
     updates: Dict[int, bytes]

@@ -47,8 +47,9 @@ TARGETS = ("dstImage", "dstBuffer", "image", "buffer")
 
 
 class Context:
-    """Where a command is: the family of its queue in the capture, its batch, those that it waits for, its render pass, and the fills that
-    stand for what the host wrote, where there is a queue for them."""
+    """Where a command is: the family of its queue in the capture, its batch, those that it waits for, its
+    render pass, and the fills that stand for what the host wrote, where there is a queue for them.
+    """
 
     def __init__(self, family, batch, waited, has_stand_in):
         self.family, self.batch, self.waited = family, batch, waited

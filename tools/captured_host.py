@@ -1,10 +1,10 @@
 """What the host writes to memory that commands read, and what it is taken to read of what they write.
 
-A capture has the pages in which the host wrote, and not the bytes. So for each byte of a buffer that the host may
-access one of these is known: it is fresh; it is pending, which is that the capture has a value of it that no command
-has read yet, flushed or not; it is in the trace; or a command has written it, and then what the capture has of it
-may be what the command wrote. A pending byte becomes a write of the host where a command reads it first, and a byte
-in the trace does where its value changes.
+A capture has the pages in which the host wrote, and not the bytes. So for each byte of a buffer that the host
+may access one of these is known: it is fresh; it is pending, which is that the capture has a value of it that no
+command has read yet, flushed or not; it is in the trace; or a command has written it, and then what the capture
+has of it may be what the command wrote. A pending byte becomes a write of the host where a command reads it
+first, and a byte in the trace does where its value changes.
 
 A trace has two digits for a byte, and 16 MiB. So many bytes at once are a fill in the place of a write, where no
 flush of them is to be judged: by a batch on the other queue of the family, which has nothing else to do, and for
@@ -25,6 +25,8 @@ COHERENT_TYPE, CACHED_TYPE = 1, 2
 TARGET_USAGE = 2
 # A write of so many bytes is a fill, where their values aren't known, and where they are.
 MANY_UNKNOWN, MANY = 4096, 262144
+# What the host wrote is kept by pages of so many bytes.
+PAGE = 4096
 # So many ranges that the host hasn't read are joined.
 MANY_RANGES = 256
 # The bytes of all writes of a trace.
@@ -85,9 +87,38 @@ def fill(world, part):
         return
     world.call = Call(part.index, "(a write of the host)", {}, None)
     start = part.offset + (memory.mapping[0] if memory.mapping else 0)
-    if not memory.places.ranges:
-        memory.early.append((start, part.data))
+    keep(memory, start, part.data)
     host_wrote(world, memory, start, part.data)
+
+
+def keep(memory, start, data):
+    """Keeps a write by pages, for a buffer that is bound later."""
+    place = 0
+    while place < len(data):
+        page, first = divmod(start + place, PAGE)
+        count = min(PAGE - first, len(data) - place)
+        kept = memory.pages.setdefault(page, bytearray(PAGE))
+        kept[first : first + count] = data[place : place + count]
+        place += count
+
+
+def written_before(world, buffer):
+    """What the host wrote to the memory of a buffer before it was bound there; that is taken as flushed."""
+    offset, pages = buffer.offset, buffer.memory.pages
+    last = (offset + buffer.size - 1) // PAGE if pages else -1
+    for page in range(offset // PAGE, last + 1):
+        if page in pages:
+            start = page * PAGE - offset
+            low, high = max(start, 0), min(start + PAGE, buffer.size)
+            buffer_written(world, buffer, low, bytes(pages[page][low - start : high - start]))
+    mapping = buffer.memory.mapping
+    if not world.has_blocks and mapping:
+        taken = slice(max(mapping[0] - offset, 0), max(mapping[1] - offset, 0))
+        state = shadow_of(buffer).state
+        state[taken] = state[taken].replace(bytes([FRESH]), bytes([PENDING]))
+    elif buffer.shadow is not None:
+        state = buffer.shadow.state
+        state[:] = state.replace(bytes([PENDING]), bytes([FLUSHED]))
 
 
 def buffer_written(world, buffer, low, data):

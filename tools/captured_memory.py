@@ -9,12 +9,12 @@ from captured_host import (
     PENDING,
     TARGET_USAGE,
     ensure_mapped,
-    host_wrote,
     is_many,
     parts_in,
     put_reads,
     shadow_of,
     unmap,
+    written_before,
 )
 from captured_masks import WHOLE
 from captured_state import MOST_MEMORY, Memory
@@ -103,8 +103,8 @@ def bind_buffer(world, handle, memory_handle, offset):
     world.grow_heap(memory.type, buffer.size)
     if memory.is_imported:
         shadow_of(buffer).state[:] = bytes([FLUSHED]) * buffer.size
-    for start, data in memory.early:
-        host_wrote(world, memory, start, data)
+    else:
+        written_before(world, buffer)
 
 
 # ---- maps, flushes and invalidations

@@ -158,7 +158,7 @@ class Memory:
         self.handle, self.size, self.type = handle, size, kind
         self.is_visible, self.is_imported = is_visible, is_imported
         self.places = Places()
-        self.early = []
+        self.pages = {}
         self.is_foreign = self.has_linear = False
         # of a mapping: its offset, its end, and how many batches had been submitted
         self.mapping = None

@@ -171,7 +171,7 @@ class Program:
         return made
 
     def submit(self, queue, buffers=(), waits=(), signals=(), fence=NULL):
-        """vkQueueSubmit of a batch; a wait is a semaphore, stages and a value, a signal a semaphore and a value."""
+        """vkQueueSubmit of a batch: a wait has a semaphore, stages and a value, a signal no stages."""
         link = {
             "pNext": None,
             "pWaitSemaphoreValues": [value for _, _, value in waits],

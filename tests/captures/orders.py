@@ -312,7 +312,7 @@ def render_pass(is_ordered):
 
 
 def frames(is_waited):
-    """Two frames that are presented and acquired: what was presented comes before what waits for the next image."""
+    """Two frames: what was presented comes before what waits for the next image."""
     program = Program()
     queue, (target, _) = program.queue(), program.buffer()
     drawn, ready = program.semaphore(), program.semaphore()

@@ -210,6 +210,21 @@ def large(kind):
     return Case(program, None, None, ("are a fill with zeros",), "00" * size)
 
 
+def bound_later():
+    """A buffer is bound to memory that is mapped already, beside another one."""
+    program = Program()
+    queue, memory = program.queue(), program.memory(COHERENT, 64)
+    first, second = program.loose_buffer(), program.loose_buffer()
+    target, place = program.buffer(COHERENT)
+    program.bound(first, memory, 0)
+    program.mapped(memory)
+    program.bound(second, memory, 32)
+    program.submit(queue, [program.commands(copy(second, target), TO_HOST)])
+    program.idle()
+    program.read_back(place)
+    return Case(program, reads="00" * 16)
+
+
 def named():
     """Debug names, in the summary."""
     program = Program()
@@ -245,5 +260,6 @@ CASES = {
     ),
     "many bytes, imported": lambda: large("imported"),
     "many bytes, mapped": lambda: large("mapped"),
+    "bound after the map": bound_later,
     "debug names": named,
 }
