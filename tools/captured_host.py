@@ -25,6 +25,8 @@ COHERENT_TYPE, CACHED_TYPE = 1, 2
 TARGET_USAGE = 2
 # A write of so many bytes is a fill, where their values aren't known, and where they are.
 MANY_UNKNOWN, MANY = 4096, 262144
+# Ranges with no more bytes than these between them are written as one.
+NEAR = 256
 # What the host wrote is kept by pages of so many bytes.
 PAGE = 4096
 # So many ranges that the host hasn't read are joined.
@@ -173,7 +175,9 @@ def commands_read(world, buffer, ranges, context):
     if buffer.shadow is None:
         return True
     state = buffer.shadow.state
-    for low, high in ranges:
+    # (what is pending between rows may be written with them)
+    for low, high in joined((low, high + NEAR) for low, high in ranges):
+        high = min(high - NEAR, buffer.size)
         for run in WAITING.finditer(bytes(state[low:high])):
             start, end = low + run.start(), low + run.end()
             state[start:end] = bytes([IN_TRACE]) * (end - start)
