@@ -51,6 +51,8 @@ def run_tool(answer):
         return answer()
     except OSError as error:
         print(": ".join(filter(None, (error.filename, error.strerror))), file=sys.stderr)
+        # (what is left for standard output isn't tried again)
+        os.dup2(os.open(os.devnull, os.O_WRONLY), 1)
         return NOT_DONE
     except KeyboardInterrupt:
         return INTERRUPTED

@@ -6,13 +6,9 @@ import json
 import re
 from bisect import bisect_right
 
-# Blanks and comments, and what stands behind them: a bracket or a comma, a string, or a number or a word.
-TOKEN = re.compile(
-    r"""(?:[ \t\r\n]|//[^\n]*|/\*.*?\*/)*
-    ([][,]|"[^"\\\x00-\x1f]*(?:\\.[^"\\\x00-\x1f]*)*"|[-+.\w]+|$)""",
-    re.VERBOSE | re.DOTALL,
-)
-BLANKS = re.compile(r"(?:[ \t\r\n]|//[^\n]*|/\*.*?\*/)*", re.DOTALL)
+# (nothing may follow in the expression of blanks, or a comment would be taken for a longer one where that fails)
+BLANKS = re.compile(r"(?:[ \t\r\n]+|//[^\n]*|/\*.*?\*/)*", re.DOTALL)
+TOKEN = re.compile(r'[][,]|"[^"\\\x00-\x1f]*(?:\\.[^"\\\x00-\x1f]*)*"|[-+.\w]+', re.DOTALL)
 DECIMAL = re.compile(r"0|[1-9][0-9]*")
 HEX = re.compile(r"0[xX][0-9A-Fa-f]+")
 # No number of a trace has more characters (some zeros before it allowed).
@@ -98,12 +94,13 @@ def tokens(text):
         found = match(text, at)
         if not found:
             at = BLANKS.match(text, at).end()
-            raise Mistake(at, unknown(text, at))
-        token = found[1]
-        if not token:
-            return
-        yield found.start(1), token
+            found = match(text, at)
+            if not found:
+                break
+        yield at, found[0]
         at = found.end()
+    if at < len(text):
+        raise Mistake(at, unknown(text, at))
 
 
 def unknown(text, at):
