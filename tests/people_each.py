@@ -83,6 +83,14 @@ def wanted_lines(traces):
     return [f"{name}: {said}" for name, said in rows]
 
 
+def suite_of(report):
+    """What a report has."""
+    try:
+        return tree.parse(report).getroot()[0]
+    except tree.ParseError as error:
+        raise ValueError(f"the report isn't XML: {error}") from error
+
+
 def judge_folder(arguments=()):
     """A folder with traces as they come: each line, the counts, and the report."""
     with tempfile.TemporaryDirectory() as folder:
@@ -91,7 +99,7 @@ def judge_folder(arguments=()):
             Path(folder, name).write_bytes(b"no trace of the folder")
         report = Path(folder, "report.xml")
         answer = run([*EACH, folder, "--junit", str(report), *arguments])
-        suite = tree.parse(report).getroot()[0]
+        suite = suite_of(report)
     wrong = sum(bool(said) for *_, said in TRACES)
     kinds = Counter(VERDICTS[example].split()[-1] for _, example, *_ in TRACES)
     totals = [
@@ -168,7 +176,7 @@ def judge_unread():
         Path(folder, "odd.expected").mkdir()
         report = Path(folder, "report.xml")
         answer = run([*EACH, folder, "--junit", str(report)])
-        suite = tree.parse(report).getroot()[0]
+        suite = suite_of(report)
     wanted = (
         "away.json: no verdict: it can't be read: No such file or directory\n"
         "good.json: accepted\n"
@@ -190,7 +198,7 @@ def judge_odd_names():
         report = Path(folder, "report.xml")
         environment = {**os.environ, "LC_ALL": "C.UTF-8"}
         answer = run([*EACH, folder, "--junit", str(report)], env=environment)
-        found = sorted(case.get("name") for case in tree.parse(report).getroot()[0])
+        found = sorted(case.get("name") for case in suite_of(report))
     shown_names = ["\\x1b[31mred.json", "a\\nline.json", "not \\xff UTF-8.json"]
     lines = "".join(f"{name}: accepted\n" for name in shown_names)
     wanted = answered(lines + "3 accepted\n3 traces, none not as expected\n")

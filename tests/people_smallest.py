@@ -55,10 +55,28 @@ SMALL_COMMENTED = [
     ["map", 1],
     ["read", 1, 0, 4],
 ]
+FILLS = [["fill", 1, 0, 8, 1], ["fill", 1, 4, 8, 2]]
+OTHER_FILLS = [["fill", 2, 0, 8, 1], ["fill", 2, 4, 8, 2]]
+BUFFERS = [["buffer", number, 16, 3, "exclusive", ["dedicated", 1]] for number in (1, 2)]
+# Traces with what is left of them: one whose other fault isn't taken for the first one, and one whose fault is a list
+# without members.
+KEPT = [
+    (
+        [*BUFFERS, ["submit", 0, [[[], [FILLS[0], OTHER_FILLS[0], FILLS[1], OTHER_FILLS[1]], []]]]],
+        [BUFFERS[0], ["submit", 0, [[[], FILLS, []]]]],
+    ),
+    ([["semaphore", 1, 0], ["wait", []], ["signal", 1, 1], ["wait", [[1, 1]]]], [["wait", []]]),
+]
 # The ids of objects that don't matter begin here.
 FIRST_ID = 1000
-# Such a trace of some hundred entries needs no more runs.
-MOST_RUNS = 250
+# So often there are such entries in a long trace, which is made small in so many runs at most.
+OFTEN, MOST_RUNS = 75, 120
+
+
+def as_text(trace):
+    """A trace as it is written: an entry a line."""
+    lines = ",\n".join(f"  {json.dumps(entry, separators=(',', ':'))}" for entry in trace)
+    return f"[\n{lines}\n]\n"
 
 
 def padding(number):
@@ -91,8 +109,7 @@ def judge_smallest(name, wanted, times, arguments=()):
     """What is left of an example with such entries: what is wanted, in no more runs than halving needs."""
     trace = padded(json.loads((EXAMPLES / f"{name}.json").read_bytes()), times)
     answer = run([*SMALLEST, *arguments], json.dumps(trace).encode())
-    lines = ",\n".join(f"  {json.dumps(entry, separators=(',', ':'))}" for entry in wanted)
-    found = difference((f"[\n{lines}\n]\n".encode(), 0), (answer.output, answer.status))
+    found = difference((as_text(wanted).encode(), 0), (answer.output, answer.status))
     said = answer.error.decode()
     if found or not said.startswith(f"{len(trace)} entries, ") or not said.endswith(" runs\n"):
         return found or f"standard error: {said}"
@@ -104,6 +121,12 @@ def smallest_tests():
     """Refused examples with entries that don't matter; what is to stay in other ways; and what can't be."""
     for name, wanted in SMALL.items():
         yield Test(f"smallest {name}", lambda n=name, w=wanted: judge_smallest(n, w, 12))
+    for name in ("missing_dependency", "overlapping_fills"):
+        wanted = SMALL[name]
+        yield Test(f"smallest {name}, long", lambda n=name, w=wanted: judge_smallest(n, w, OFTEN))
+    for trace, wanted in KEPT:
+        text = json.dumps(trace)
+        yield Test(f"smallest of {text[:60]}", lambda t=text, w=wanted: judge_left(t, as_text(w)))
     yield Test("smallest --rule", lambda: judge_rule("HAZARD_RAW", 4))
     command = f"{EXPLAIN} | grep -q 'made available by signal'"
     signaled = SMALL["missing_dependency"][:1] + [["semaphore", 2, 0]] + SMALL["missing_dependency"][1:]
@@ -112,8 +135,8 @@ def smallest_tests():
         "smallest --command",
         lambda: judge_smallest("missing_dependency", signaled, 2, ["--command", command]),
     )
-    left = "".join(f"  {json.dumps(e, separators=(',', ':'))},\n" for e in SMALL_COMMENTED)
-    yield Test("smallest of a trace with names", lambda: judge_left(COMMENTED, f"[\n{left[:-2]}\n]\n"))
+    left = as_text(SMALL_COMMENTED)
+    yield Test("smallest of a trace with names", lambda: judge_left(COMMENTED, left))
     yield from unkept_tests()
 
 
