@@ -45,24 +45,36 @@ TRACES = [
         "broken, explained as another one",
         BROKEN,
         {"explained": beside(BROKEN, "explained")["explained"].replace(b"line 7", b"line 8")},
-        ", not as expected; explain writes other lines than .explained: line 2: expected: 'entry 5 reads bytes "
-        "0 to 3 of buffer 1 (line 8, column 3)'; came: 'entry 5 reads bytes 0 to 3 of buffer 1 (line 7, column 3)'",
+        ", not as expected; explain writes other lines than .explained: line 2: expected: "
+        "'entry 5 reads bytes 0 to 3 of buffer 1 (line 8, column 3)'; came: "
+        "'entry 5 reads bytes 0 to 3 of buffer 1 (line 7, column 3)'",
     ),
     (
         "broken, repaired as another one",
         BROKEN,
         {**beside(BROKEN, "explained"), "repaired.json": b"[]\n"},
-        ", not as expected; explain --repaired writes other lines than .repaired.json: line 1: expected: '[]'; "
+        ", not as expected; explain --repaired writes other lines than .repaired.json: line 1: "
+        "expected: '[]'; "
         """came: '[["buffer",1,16,3,"exclusive",["dedicated",1]],'""",
     ),
-    ("broken, explained as accepted", BROKEN, beside(FIRST, "explained"), ", not as expected; expected: accepted"),
+    (
+        "broken, explained as accepted",
+        BROKEN,
+        beside(FIRST, "explained"),
+        ", not as expected; expected: accepted",
+    ),
     ("full", FULL, {}, ", not as expected; expected: accepted"),
     ("full by status", FULL, {"status": b"3\n"}, ""),
     ("invalid", INVALID, {}, ", not as expected; expected: accepted"),
     ("invalid é漢 \"quoted\"", INVALID, beside(INVALID, "explained"), ""),
     ("within/a folder/within/accepted", FIRST, {}, ""),
     ("within/broken", BROKEN, {}, ", not as expected; expected: accepted"),
-    ("with a status in words", FIRST, {"status": b"one"}, ", not as expected; its .status has no number: 'one'"),
+    (
+        "with a status in words",
+        FIRST,
+        {"status": b"one"},
+        ", not as expected; its .status has no number: 'one'",
+    ),
 ]
 # Files that aren't traces of the folder.
 OTHERS = ("notes.txt", "accepted.explained.json", "accepted.repaired.json", "json", "accepted.json~")
@@ -158,10 +170,11 @@ def judge_good_folder():
 
 
 def judge_examples():
-    """All examples are as expected, and their own programs are the ones that say so."""
+    """All examples are as expected."""
     answer = run([*EACH, str(EXAMPLES)])
     last = answer.output.decode().splitlines()[-1:]
-    number = sum(not path.name.endswith((".explained.json", ".repaired.json")) for path in EXAMPLES.glob("**/*.json"))
+    names = [path.name for path in EXAMPLES.glob("**/*.json")]
+    number = sum(not name.endswith((".explained.json", ".repaired.json")) for name in names)
     return difference(([f"{number} traces, none not as expected"], 0), (last, answer.status))
 
 

@@ -131,7 +131,8 @@ def judge_mistake(text, said):
     is_said = said in answer.error.decode() and answer.error.count(b"\n") == 1
     if (answer.output, answer.status, is_said) == (b"", NO_TRACE, True):
         return None
-    return f"wanted: status {NO_TRACE}, and a line on standard error with: {said}\n  came:   {answer.error.decode()}"
+    wanted = f"status {NO_TRACE}, and a line on standard error with: {said}"
+    return f"wanted: {wanted}\n  came:   {answer.error.decode()}"
 
 
 def mistake_tests():

@@ -245,12 +245,24 @@ def judge_kept():
 
 def explanation_tests():
     """The lines and columns of the file, in the text and in the object; and of what isn't a trace."""
+    yield Test("names of the named example", judge_named_example)
+    named_file = EXAMPLES / "named" / "missing_dependency"
+    said = Path(f"{named_file}.explained").read_text(encoding="utf-8")
+    command = [*NAMES, "--explain", f"{named_file}.jsonc"]
+    yield compared("names --explain of the named example", answered(said, 1), command)
     yield Test("names --explain", judge_explanation)
     yield Test("names --explain --json", judge_object)
     accepted = str(EXAMPLES / "first_upload.json")
     said = (EXAMPLES / "first_upload.explained").read_text(encoding="utf-8")
     yield compared("names --explain of an accepted trace", answered(said), [*NAMES, "--explain", accepted])
     yield Test("names --explain without a program", judge_no_program)
+
+
+def judge_named_example():
+    """The named example is the example of its name."""
+    answer = run([*NAMES, str(EXAMPLES / "named" / "missing_dependency.jsonc")])
+    wanted = json.loads((EXAMPLES / "missing_dependency.json").read_bytes())
+    return difference((wanted, 0), (json.loads(answer.output), answer.status))
 
 
 def judge_explanation():
