@@ -156,6 +156,9 @@ def each_tests():
         yield compared(f"each {at}", answered("", NOT_DONE, f"{at}: {why}\n"), [*EACH, at])
     for arguments in ([], ["a", "b"], ["a", "--jobs", "0"], ["a", "--jobs", "x"], ["a", "--junit"]):
         yield Test(f"each {' '.join(arguments)}", lambda a=arguments: judge_refused(EACH, a))
+    full = ["sh", "-c", 'exec "$@" >/dev/full', "sh", *EACH, str(EXAMPLES / "no_traces")]
+    wanted = answered("", NOT_DONE, "standard output: No space left on device\n")
+    yield compared("each: a full device", wanted, full)
     no_report = str(EXAMPLES / "no_such_folder" / "report.xml")
     yield Test("each: a report that can't be written", lambda: judge_no_report(no_report))
 

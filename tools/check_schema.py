@@ -1,10 +1,10 @@
 #!/usr/bin/env python3
-"""Checks docs/trace.schema.json: that it is a schema, that the traces of examples/ and of docs/ and the forms that
-docs/FORMAT.md shows fit it, and that what is no trace doesn't, those of examples/no_traces/ among it that are JSON. Of
-these the error that lies deepest is at the member that is wrong (an array, where one is missing there or is too many),
-and its message says what is wrong with that member. It needs jsonschema 4 or later (Debian: python3-jsonschema);
-without it nothing is checked, and all is skipped. Traces with defragmentation, which no program takes yet, are no
-traces. Ends with 'N passed, M failed'."""
+"""Checks docs/trace.schema.json: it is a schema; the traces of examples/ and of docs/, and the examples in the tables
+of docs/FORMAT.md, fit it; and what isn't a trace doesn't, such as the texts of examples/no_traces/ that are JSON. The
+deepest error in such a text is at the member that is wrong (at an array, if a member is missing there or is too many),
+and its message is about that member. This needs jsonschema 4 or later (Debian: python3-jsonschema); without it nothing
+is checked, and all is skipped. Traces with defragmentation, which no program takes yet, aren't traces. Ends with
+'N passed, M failed'."""
 
 import json
 import pathlib
@@ -144,8 +144,8 @@ def outcomes(schema):
     for where, text, member in no_traces():
         yield where, mistaken(validator, text, member)
     for kind, form in shown_forms():
-        of_kind = validator.evolve(schema={**schema, 'type': 'array', 'items': {'$ref': f'#/$defs/{kind}'}})
-        fits = of_kind.is_valid([json.loads(form)])
+        of_kind = {'$ref': f'#/$defs/{kind}', '$defs': schema['$defs']}
+        fits = Draft202012Validator(of_kind).is_valid(json.loads(form))
         yield f'FORMAT.md: {form}', None if fits else f'no {kind}'
 
 

@@ -7,7 +7,7 @@ import sys
 from pathlib import Path
 
 NOT_A_TRACE, NOT_DONE, NOT_UNDERSTOOD, INTERRUPTED = 2, 5, 6, 130
-STANDARD_INPUT = "standard input"
+STANDARD_INPUT, STANDARD_OUTPUT = "standard input", "standard output"
 
 
 class Arguments(argparse.ArgumentParser):
@@ -39,7 +39,7 @@ def write_all(text):
         while data:
             data = data[os.write(1, data) :]
     except OSError as error:
-        raise OSError(error.errno, error.strerror, "standard output") from error
+        raise OSError(error.errno, error.strerror, STANDARD_OUTPUT) from error
 
 
 def run_tool(answer):
@@ -50,7 +50,7 @@ def run_tool(answer):
     try:
         return answer()
     except OSError as error:
-        print(": ".join(filter(None, (error.filename, error.strerror))), file=sys.stderr)
+        print(f"{error.filename or STANDARD_OUTPUT}: {error.strerror}", file=sys.stderr)
         # (what is left for standard output isn't tried again)
         os.dup2(os.open(os.devnull, os.O_WRONLY), 1)
         return NOT_DONE
