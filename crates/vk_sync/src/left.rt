@@ -30,7 +30,7 @@ impl Model for PieceSet {
 
 impl PieceSet {
     /// So many pieces. The only error is want of memory.
-    pub(crate) fn all(alloc: Global, count: u64) -> Result<PieceSet, AllocError>
+    pub fn all(alloc: Global, count: u64) -> Result<PieceSet, AllocError>
         ensures { IfOk result (λ left. left ≡ range_with_len 0 count) }
     {
         if count <= 1 {
@@ -44,14 +44,14 @@ impl PieceSet {
     }
 
     /// How many pieces there are.
-    pub(crate) fn len(&self) -> u64
+    pub fn len(&self) -> u64
         ensures { result ≡ length self.now }
     {
         self.count
     }
 
     /// A piece by its place among those left.
-    pub(crate) fn nth(&self, place: u64) -> u64
+    pub fn nth(&self, place: u64) -> u64
         requires { place < length self.now }
         ensures { slice_get self.now place ≡ Some result }
     {
@@ -62,7 +62,7 @@ impl PieceSet {
     }
 
     /// Takes a piece away.
-    pub(crate) fn remove(&mut self, piece: u64)
+    pub fn remove(&mut self, piece: u64)
         requires { Contains self.old piece }
         ensures others { self.new ≡ filter (λ k. not (k == piece)) self.old }
         ensures len { length self.new + 1 ≡ length self.old }

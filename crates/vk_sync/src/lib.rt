@@ -26,4 +26,5 @@ mod ready;
 mod tree;
 
 pub use board::Command;
+pub use left::PieceSet;
 pub use ready::{Piece, Ready};

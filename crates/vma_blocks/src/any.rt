@@ -55,6 +55,13 @@ impl PoolBlock for AnyBlock {
         }
     }
 
+    fn lowest_below(&self, bytes: u64, align: u64, kind: Kind, limit: u64) -> Option<u64> {
+        match self {
+            AnyBlock::General(block) => { general::lowest_below(block, bytes, align, kind, limit) }
+            AnyBlock::Stack(_) => unreachable!(),
+        }
+    }
+
     fn free(&mut self, start: u64) {
         match self {
             AnyBlock::General(block) => general::free(block, start),

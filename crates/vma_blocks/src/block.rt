@@ -43,6 +43,13 @@ pub trait PoolBlock: Sized + Drop {
         ensures no_room { IsErrOf result SubFault.NoRoom → lowest (block_taken (block self.old)) (record { size = bytes; align = align; kind = kind }) 0 (min limit (block_bytes (block self.old))) ≡ None }
         ensures err { OnErr result (block self.new ≡ block self.old) };
 
+    /// The lowest range for a request that ends at or below a limit, by its start in bytes, in a block
+    /// that can be defragmented; none where there is no such range.
+    fn lowest_below(&self, bytes: u64, align: u64, kind: Kind, limit: u64) -> Option<u64>
+        requires request { IsRequest bytes align }
+        requires general { IsGeneral (block self.now) }
+        ensures { result ≡ lowest (block_taken (block self.now)) (record { size = bytes; align = align; kind = kind }) 0 (min limit (block_bytes (block self.now))) };
+
     /// Gives back the range that starts here.
     fn free(&mut self, start: u64)
         requires { IsTakenAt start (block_taken (block self.old)) }

@@ -61,6 +61,20 @@ pub(crate) fn allocate_below(
     block.allocate_below(bytes, align, kind, limit)
 }
 
+/// The lowest range for a request that ends at or below a limit, by its start in bytes.
+pub(crate) fn lowest_below(
+    block: &Tlsf,
+    bytes: u64,
+    align: u64,
+    kind: Kind,
+    limit: u64,
+) -> Option<u64>
+    requires { IsRequest bytes align }
+    ensures { result ≡ lowest (taken block.now) (record { size = bytes; align = align; kind = kind }) 0 (min limit block.now.size) }
+{
+    block.lowest_below(bytes, align, kind, limit)
+}
+
 /// Gives back the range that starts here.
 pub(crate) fn free(block: &mut Tlsf, start: u64)
     requires { IsTakenAt start (taken block.old) }

@@ -16,6 +16,7 @@ pub mod EndedLemmas
 pub mod CallLemmas
 pub mod BacksLemmas
 pub mod ReleaseLemmas
+pub mod ReservedLemmas
 pub mod MovingLemmas
 pub mod CountLemmas
 pub mod CountedLemmas

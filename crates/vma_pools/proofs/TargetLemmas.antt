@@ -1,5 +1,5 @@
 -- A pool when what is to move has got its target.
-use Rattle.std.proofs.Common.{◌≡◌, ℕ, ◌+◌, ◌<◌, ◌≤◌, List, length, get_or, set, false, sym, ap, subst, ◌∙◌, arith, inl, inr}
+use Rattle.std.proofs.Common.{◌≡◌, ℕ, ◌+◌, ◌<◌, ◌≤◌, List, length, get_or, set, false, refl, sym, ap, subst, ◌∙◌, arith, inl, inr}
 use Rattle.std.specs.Prelude.{Some, None, All, AllPairs}
 use Rattle.std.proofs.lemmas.List.{length-map}
 use Rattle.vk_model.specs.declared.resource.PoolInfo.{PoolInfo}
@@ -10,10 +10,10 @@ use Rattle.vk_model.specs.Memory.Room.{Block}
 use Rattle.vk_model.specs.Memory.MoveTargets.{BlockStart, move_target}
 use Rattle.vk_model.specs.Memory.Pools.{PoolBlock, Pool, block_bytes, block_with, numbered_blocks}
 use Rattle.vma_blocks.specs.Alike.{IsAlike, IsGeneral}
-use Rattle.vma_pools.specs.Pools.{Kept, HasNoTarget, TakesOld, TakesTarget}
+use Rattle.vma_pools.specs.Pools.{Kept, HasNoTarget, HasTarget, TakesOld, TakesTarget}
 use Rattle.vma_pools.specs.declared.blocks.Held.{Held}
 use Rattle.vma_pools.specs.Inner.Kinds.{IsOfKind, IsKeptPool}
-use Rattle.vma_pools.specs.Inner.Lower.{lower_in, IsLowerTaken, NoneLower}
+use Rattle.vma_pools.specs.Inner.Lower.{lower_in, IsLowerTaken, IsLowest, NoneLower}
 use Rattle.vma_pools.specs.Inner.Walk.{numbered, seen, objects, kept_of, no_block, IsTaken}
 use Rattle.vma_pools.proofs.LowerLemmas.{lower-gives, refused-lower, target-found, target-none}
 use Rattle.vma_pools.proofs.PoolLemmas.{fit-takes, number-is}
@@ -44,6 +44,26 @@ module _ {B : Type 0} (block : B → Block) (first now : List (Held B)) (i : ℕ
         changed = changed-at block first now i d v same lt r false start with;
       }
 
+-- ---- a step of a walk that changes nothing
+
+module _ {B : Type 0} (block : B → Block) (blocks : List (Held B)) (i : ℕ) (x : Held B) (is : x ≡ get_or blocks i x) (lt : i < length blocks) (from : BlockStart) (r : Request) (none : NoneLower (seen block blocks) from r i) where
+  pub read-general : (size : ℕ) → All (λ b. IsGeneral b.block × (block_bytes b.block ≡ size)) (seen block blocks) → IsGeneral (block x.block) × (block_bytes (block x.block) ≡ size)
+  read-general size all =
+      subst (λ (h : Held B). IsGeneral (block h.block) × (block_bytes (block h.block) ≡ size)) (sym is) (asked-general block blocks blocks i x refl lt from r none size all)
+
+  pub none-read-next : lower_in from r (numbered block x) ≡ None → NoneLower (seen block blocks) from r (i + 1)
+  none-read-next refused =
+      none-lower-next block blocks blocks i x refl lt from r none (subst (λ (h : Held B). lower_in from r (numbered block h) ≡ None) is refused)
+
+  pub is-lowest : (start : ℕ) → lower_in from r (numbered block x) ≡ Some (record { block = x.number; start = start }) → IsLowest (seen block blocks) from r i start
+  is-lowest start some =
+      record {
+        there = omega (arith, lt, length-map blocks (numbered block));
+        before = none;
+        target =
+            subst (λ (b : PoolBlock). lower_in from r b ≡ Some (record { block = b.number; start = start })) (ap (numbered block) is ∙ sym (at_index block blocks blocks i x x.block refl lt)) some;
+      }
+
 -- where no block was changed
 pub kept-same : {B : Type 0} (block : B → Block) (info : PoolInfo) (old new : List (Held B)) (next : ℕ) → seen block new ≡ seen block old → objects new ≡ objects old → kept_of block info new next ≡ kept_of block info old next
 kept-same block info old new next e o =
@@ -72,10 +92,25 @@ as-taken bs new size from r i start rising general inside t =
       changed = t.changed;
     }
 
+-- ---- the target of a walk that changes nothing
+
+module _ {B : Type 0} (block : B → Block) (info : PoolInfo) (blocks : List (Held B)) (next : ℕ) (from : BlockStart) (r : Request) where
+  pub none-seen : NoneLower (seen block blocks) from r (length blocks) → HasNoTarget (kept_of block info blocks next).pool from r
+  none-seen none id =
+      target-none (record { id = id; from = from; request = r }) (seen block blocks) (λ k less. none k (omega (arith, less, length-map blocks (numbered block))))
+
+  pub target-seen : (i start : ℕ) → IsLowest (seen block blocks) from r i start → (x : Held B) → x ≡ get_or blocks i x → HasTarget (kept_of block info blocks next).pool from r (record { block = x.number; start = start })
+  target-seen i start t x is id =
+      target-found (record { id = id; from = from; request = r }) (seen block blocks) i (record { block = (get_or (seen block blocks) i no_block).number; start = start }) t.there t.before t.target
+      ∙ ap (λ (b : PoolBlock). Some (record { block = b.number; start = start }))
+      (at_index block blocks blocks i x x.block refl (omega (arith, t.there, length-map blocks (numbered block))) ∙ ap (numbered block) (sym is))
+
+-- ---- what was taken is what the pool gives, in a pool
+
 module _ {B : Type 0} (block : B → Block) (info : PoolInfo) (old new fit : List (Held B)) (next : ℕ) (h : IsKeptPool (kept_of block info old next).pool) (kind : info.kind ≡ algorithm.Tlsf)
     (from : BlockStart) (r : Request) (inside : from.start ≤ info.block_size) where
   pub no-target : NoneLower (seen block old) from r (length old) → HasNoTarget (kept_of block info old next).pool from r
-  no-target none id = target-none (record { id = id; from = from; request = r }) (seen block old) (λ k less. none k (omega (arith, less, length-map old (numbered block))))
+  no-target none = none-seen block info old next from r none
 
   module _ (i start : ℕ) (t : IsLowerTaken (seen block old) (seen block new) from r i start) (fits : fit ≡ new) where
     taken : IsTaken (seen block old) (seen block new) r false i start

@@ -47,6 +47,10 @@ HasTaken p s = Any (λ b. (b.number ≡ s.block) × IsTakenAt s.start (block_tak
 abbrev pub HasNoTarget : Pool → BlockStart → Request → Type 0
 HasNoTarget p from r = (id : ℕ) → move_target (numbered_blocks p.blocks) (record { id = id; from = from; request = r }) ≡ None
 
+-- The move target of what has a place in a pool (VMA, "Defragmentation").
+abbrev pub HasTarget : Pool → BlockStart → Request → BlockStart → Type 0
+HasTarget p from r s = (id : ℕ) → move_target (numbered_blocks p.blocks) (record { id = id; from = from; request = r }) ≡ Some s
+
 -- The move target of what has a place in a pool is taken too; the memory objects of its blocks are as they were (VMA, "Defragmentation").
 pub record TakesTarget (old new : Kept) (from : BlockStart) (r : Request) (s : BlockStart) : Type 0 where
   pub given : Gives old.pool r false s

@@ -11,7 +11,7 @@ use Rattle.vma_pools.specs.declared.allocations.Home.{Home}
 use Rattle.vma_pools.specs.declared.allocations.Home.TheVariants as home
 use Rattle.vma_pools.specs.declared.allocations.Allocation.{Allocation}
 use Rattle.vma_pools.specs.Alike.{IsAlikePool}
-use Rattle.vma_pools.specs.Pools.{Kept, Takes, Loses, KeepsBlocks, IsMemoryOf, HasNoTarget, TakesTarget}
+use Rattle.vma_pools.specs.Pools.{Kept, Takes, Loses, KeepsBlocks, IsMemoryOf, HasNoTarget, HasTarget, TakesTarget}
 use Rattle.vk_model.specs.declared.resource.Spot.{Spot}
 use Rattle.vma_pools.specs.Inner.Kinds.{IsKeptPool}
 use Rattle.vma_pools.specs.Ranges.{HasRange}
@@ -184,6 +184,17 @@ pub record HasNoLower (s : PoolsState) (i : ℕ) : Type 0 where
   pub there : pool_at s pool ≡ Some kept
   pub none : HasNoTarget kept.pool (start_of from) (request_in allocation.asked)
 
+-- An allocation of a pool has this move target (VMA, "Defragmentation").
+pub record HasLower (s : PoolsState) (i : ℕ) (target : PoolPlace) : Type 0 where
+  pub allocation : Allocation
+  pub live : allocation_at s i ≡ Some allocation
+  pub pool : ℕ
+  pub from : PoolPlace
+  pub lies : allocation.home ≡ home.Shared pool from
+  pub kept : Kept
+  pub there : pool_at s pool ≡ Some kept
+  pub has : HasTarget kept.pool (start_of from) (request_in allocation.asked) (start_of target)
+
 -- The move target of an allocation is reserved for it, and taken in its pool (VMA, "Defragmentation").
 pub record IsReserved (old new : PoolsState) (i : ℕ) (target : PoolPlace) : Type 0 where
   pub allocation : Allocation
@@ -201,3 +212,8 @@ pub record IsReserved (old new : PoolsState) (i : ℕ) (target : PoolPlace) : Ty
 abbrev pub IsSpotOf : PoolsState → Home → Asked → Spot → Type 0
 IsSpotOf s (home.Own n) asked spot = spot ≡ record { memory = n; offset = 0; size = asked.size }
 IsSpotOf s (home.Shared p place) asked spot = IfKept s p (λ k. IsMemoryOf k place.block spot.memory × (spot.offset ≡ place.start) × (spot.size ≡ asked.size))
+
+-- The place that is reserved for an allocation is there (Vulkan, "Resource Memory Association").
+abbrev pub IsTargetSpot : PoolsState → Home → Option PoolPlace → Asked → Spot → Type 0
+IsTargetSpot s (home.Shared p place) (Some target) asked spot = IsSpotOf s (home.Shared p target) asked spot
+IsTargetSpot s _ _ asked spot = ⊥

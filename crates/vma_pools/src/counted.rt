@@ -2,7 +2,7 @@ ghost use Rattle.std.specs.Prelude.{◌≡◌, [], ◌+◌, ◌*◌, ◌<◌, �
 ghost use Rattle.vk_model.specs.Memory.Suballocation.{IsRequest};
 ghost use Rattle.vk_model.specs.Memory.Room.{NoRoomInPool};
 ghost use Rattle.vk_model.specs.Memory.Pools.{AreStatistics, empty_pool, numbered_blocks, pool_without, state_of};
-ghost use Rattle.vma_pools.specs.Pools.{HasNoTarget, IsMemoryOf, KeepsBlocks, Loses, Takes, TakesTarget, heaps};
+ghost use Rattle.vma_pools.specs.Pools.{HasNoTarget, HasTarget, IsMemoryOf, KeepsBlocks, Loses, Takes, TakesTarget, heaps};
 ghost use Rattle.vma_pools.specs.Ranges.{HasRange};
 ghost use Rattle.vma_pools.specs.State.{range_at, request_in};
 ghost use Rattle.vma_blocks.specs.PoolInfos.{IsPoolInfo};
@@ -155,6 +155,20 @@ impl<B: PoolBlock> CountedPool<B> {
         self.ranges += 1;
         self.bytes += asked.size;
         Ok(Some(lower))
+    }
+
+    /// The move target of what is at a place, of which nothing is taken; none where there is none.
+    pub(crate) fn lower_place(&self, from: PoolPlace, asked: Asked) -> Option<PoolPlace>
+        requires request { IsRequest asked.size asked.align }
+        requires general { self.now.pool.info.kind ≡ PoolKind.Tlsf }
+        requires inside { from.start + asked.size ≤ self.now.pool.info.block_size }
+        ensures { MatchOption result
+            (HasNoTarget self.now.pool (record { block = from.block; start = from.start }) (request_in asked))
+            (λ s. HasTarget self.now.pool (record { block = from.block; start = from.start }) (request_in asked) (record { block = s.block; start = s.start })) }
+    {
+        self.pool.is_kept();
+        self.pool
+            .lower_place(from, asked.size, asked.align, asked.kind)
     }
 
     /// How much of the pool's memory is in use.

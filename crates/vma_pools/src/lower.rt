@@ -1,8 +1,8 @@
-ghost use Rattle.std.specs.Prelude.{◌≡◌, ◌≤◌, length, All, Some, None, false, IfOk, OnErr, MatchOption};
+ghost use Rattle.std.specs.Prelude.{◌≡◌, ◌≤◌, length, All, Some, None, false, IfOk, OnErr, MatchOption, option_map};
 ghost use Rattle.vk_model.specs.Memory.Suballocation.{IsRequest};
 ghost use Rattle.vk_model.specs.Memory.Pools.{block_bytes, block_with};
 ghost use Rattle.vma_blocks.specs.Alike.{IsAlike, IsGeneral};
-ghost use Rattle.vma_pools.specs.Inner.Lower.{lower_in, IsLowerTaken, NoneLower};
+ghost use Rattle.vma_pools.specs.Inner.Lower.{lower_in, at_start, IsLowest, IsLowerTaken, NoneLower};
 ghost use Rattle.vma_pools.specs.Inner.Walk.{seen, objects};
 
 use crate::blocks::Held;
@@ -82,4 +82,48 @@ pub(crate) fn take_below<B: PoolBlock>(
         }
     }
     Ok(None)
+}
+
+/// The lowest place that a block has for what is to move, by its start in bytes, of which nothing is
+/// taken; none where it has none.
+fn place_at<B: PoolBlock>(block: &B, number: u64, size: u64, mover: Mover) -> Option<u64>
+    requires request { IsRequest mover.bytes mover.align }
+    requires general { IsGeneral (B.block block.now) }
+    requires bytes { block_bytes (B.block block.now) ≡ size }
+    requires inside { mover.start ≤ size }
+    ensures { lower_in (record { block = mover.block; start = mover.start }) (record { size = mover.bytes; align = mover.align; kind = mover.kind }) (record { number = number; block = B.block block.now }) ≡ option_map (at_start number) result }
+{
+    if mover.block < number {
+        return None;
+    }
+    let limit = if number == mover.block {
+        mover.start
+    } else {
+        size
+    };
+    block.lowest_below(mover.bytes, mover.align, mover.kind, limit)
+}
+
+/// The index of the first block that has a place for what is to move, and the start in bytes of the
+/// lowest such place there; none where no block has one.
+pub(crate) fn place_below<B: PoolBlock>(
+    blocks: &[Held<B>],
+    size: u64,
+    mover: Mover,
+) -> Option<(usize, u64)>
+    requires request { IsRequest mover.bytes mover.align }
+    requires general { All (λ b. IsGeneral b.block × (block_bytes b.block ≡ size)) (seen B.block blocks.now) }
+    requires inside { mover.start ≤ size }
+    ensures { MatchOption result
+        (NoneLower (seen B.block blocks.now) (record { block = mover.block; start = mover.start }) (record { size = mover.bytes; align = mover.align; kind = mover.kind }) (length blocks.now))
+        (λ t. IsLowest (seen B.block blocks.now) (record { block = mover.block; start = mover.start }) (record { size = mover.bytes; align = mover.align; kind = mover.kind }) t.0 t.1) }
+{
+    for i in 0..blocks.len() {
+        let held = &blocks[i];
+        match place_at(&held.block, held.number, size, mover) {
+            Some(start) => return Some((i, start)),
+            None => {}
+        }
+    }
+    None
 }

@@ -1,14 +1,58 @@
 ghost use Rattle.std.specs.Prelude.{◌≡◌, IfOk, OnErr, MatchOption};
 ghost use Rattle.vk_memory.specs.MemoryState.{MemoryState};
-ghost use Rattle.vma_pools.specs.State.{Backs, IfLive, IsMovable, HasNoLower, IsReserved};
+ghost use Rattle.vma_pools.specs.State.{Backs, IfLive, IsMovable, IsTargetSpot, HasLower, HasNoLower, IsReserved};
+ghost use Rattle.vma_pools.specs.Moves.{IsMoving};
 
 use crate::allocations::{Allocation, Home};
 use crate::pool::PoolPlace;
 use crate::pools::PoolsOf;
 use std::alloc::AllocError;
+use vk_model::Spot;
 use vma_blocks::PoolBlock;
 
 impl<B: PoolBlock> PoolsOf<B> {
+    /// The move target of an allocation in its pool, of which nothing is taken; none where there is
+    /// none.
+    pub fn lower_place(&self, allocation: u64) -> Option<PoolPlace>
+        requires { IfLive self.now allocation (λ a. IsMovable self.now a.home a.target) }
+        ensures { MatchOption result (HasNoLower self.now allocation) (HasLower self.now allocation) }
+    {
+        let Some(live) = self.allocations[allocation as usize] else {
+            unreachable!()
+        };
+        let Home::Shared { pool, place } = live.home else {
+            unreachable!()
+        };
+        let Some(kept) = &self.pools[pool as usize] else {
+            unreachable!()
+        };
+        kept.lower_place(place, live.asked)
+    }
+
+    /// The place that is reserved for an allocation: its memory object, and its range there.
+    pub fn target(&self, allocation: u64) -> Spot
+        requires { IfLive self.now allocation (λ a. IsMoving a.home a.target) }
+        ensures { IfLive self.now allocation (λ a. IsTargetSpot self.now a.home a.target a.asked result) }
+    {
+        let Some(live) = self.allocations[allocation as usize] else {
+            unreachable!()
+        };
+        let Home::Shared { pool, .. } = live.home else {
+            unreachable!()
+        };
+        let Some(target) = live.target else {
+            unreachable!()
+        };
+        match &self.pools[pool as usize] {
+            Some(kept) => Spot {
+                memory: kept.memory_of(target.block),
+                offset: target.start,
+                size: live.asked.size,
+            },
+            None => unreachable!(),
+        }
+    }
+
     /// Reserves the move target of an allocation in its pool: the lowest place of the first earlier
     /// block that holds it, else the lowest of its own block that ends at or below its start; none
     /// where there is no such place. The only error is want of memory.

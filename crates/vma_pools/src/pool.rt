@@ -2,14 +2,14 @@ ghost use Rattle.std.specs.Prelude.{◌≡◌, [], ◌<◌, ◌≤◌, ◌^◌, 
 ghost use Rattle.vk_model.specs.Memory.Suballocation.{IsRequest};
 ghost use Rattle.vk_model.specs.Memory.Room.{BlockHolds, NoRoomInPool};
 ghost use Rattle.vk_model.specs.Memory.Pools.{IsLargestIn, empty_pool, numbered_blocks, pool_without, state_of};
-ghost use Rattle.vma_pools.specs.Pools.{HasNoTarget, HasTaken, IsMemoryOf, KeepsBlocks, Loses, TakesTarget, TakesOld, TakesNew};
+ghost use Rattle.vma_pools.specs.Pools.{HasNoTarget, HasTarget, HasTaken, IsMemoryOf, KeepsBlocks, Loses, TakesTarget, TakesOld, TakesNew};
 ghost use Rattle.vma_pools.specs.Pools.{Takes, heaps};
 ghost use Rattle.vk_memory.specs.MemoryState.{IsFull};
 ghost use Rattle.vma_blocks.specs.PoolInfos.{IsPoolInfo};
 ghost use Rattle.vma_pools.specs.Alike.{IsAlikePool};
 
 use crate::blocks::{Held, begin_block, index_of, largest_in, take_in};
-use crate::lower::{Mover, take_below};
+use crate::lower::{Mover, place_below, take_below};
 use std::alloc::{AllocError, Global};
 use std::marker::Model;
 use vk_memory::{Memories, MemoryError};
@@ -217,6 +217,38 @@ impl<B: PoolBlock> PoolOf<B> {
             block: self.blocks[index].number,
             start,
         }))
+    }
+
+    /// The move target of what is at a place, of which nothing is taken; none where there is none.
+    pub(crate) fn lower_place(
+        &self,
+        from: PoolPlace,
+        bytes: u64,
+        align: u64,
+        kind: Kind,
+    ) -> Option<PoolPlace>
+        requires request { IsRequest bytes align }
+        requires general { self.now.pool.info.kind ≡ PoolKind.Tlsf }
+        requires inside { from.start + bytes ≤ self.now.pool.info.block_size }
+        ensures { MatchOption result
+            (HasNoTarget self.now.pool (record { block = from.block; start = from.start }) (record { size = bytes; align = align; kind = kind }))
+            (λ s. HasTarget self.now.pool (record { block = from.block; start = from.start }) (record { size = bytes; align = align; kind = kind }) (record { block = s.block; start = s.start })) }
+    {
+        let mover = Mover {
+            block: from.block,
+            start: from.start,
+            bytes,
+            align,
+            kind,
+        };
+        let (index, start) = match place_below(&self.blocks, self.info.block_size, mover) {
+            Some(lower) => lower,
+            None => return None,
+        };
+        Some(PoolPlace {
+            block: self.blocks[index].number,
+            start,
+        })
     }
 
     /// The length in bytes of the longest free range of a block; 0 where there is no block.

@@ -104,10 +104,13 @@ module _ (whole root : ℕ) (old : List (Option Node)) (now : Block) (want : Wan
       ∙ ap (λ n. lowest (taken_in old) (request_of_want want) 0 (min limit n)) (sym (ap (λ (b : Block). b.size) view))
       ∙ ap (λ n. lowest (taken_in old) (request_of_want want) 0 n) (sym high_is)
 
+  pub lowest_found : (place : Place) → IsPlaceFor old (request_of_want want) high place.slot place.start → NoneBelow old (request_of_want want) high place.start → lowest (taken now) (request_of_want want) 0 (min limit now.size) ≡ Some place.start
+  lowest_found place some least = lowest_seen ∙ lowest_is (taken_in old) (request_of_want want) high place.start some.fitting least
+
   pub lowest_after : (new : List (Option Node)) (found : Option Place) (result : Result ℕ SubFault) → IfSome found (λ place. IsPlaceFor old (request_of_want want) high place.slot place.start) → IfSome found (λ place. NoneBelow old (request_of_want want) high place.start)
       → IfOk result (λ start. IsSomeAnd found (λ place. place.start ≡ start) × TakesMore old new (taken_of_want start want)) → IfOk result (λ start. lowest (taken now) (request_of_want want) 0 (min limit now.size) ≡ Some start)
   lowest_after new None (Ok start) some least ok = absurd ok.0
-  lowest_after new (Some place) (Ok start) some least ok = lowest_seen ∙ lowest_is (taken_in old) (request_of_want want) high place.start some.fitting least ∙ ap Some ok.0
+  lowest_after new (Some place) (Ok start) some least ok = lowest_found place some least ∙ ap Some ok.0
   lowest_after new found (Err e) some least ok = tt
 
   pub none_lowest : ((start : ℕ) → IsTrue (fits (taken_in old) (request_of_want want) 0 high start) → ⊥) → lowest (taken now) (request_of_want want) 0 (min limit now.size) ≡ None

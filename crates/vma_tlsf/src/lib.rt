@@ -20,6 +20,7 @@
 mod changes;
 mod lists;
 mod places;
+mod ranges;
 mod steps;
 mod tlsf;
 

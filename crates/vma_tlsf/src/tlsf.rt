@@ -13,6 +13,7 @@ use crate::lists::Lists;
 use crate::places::{
     Place, Want, find_place, is_all_free, longest_free, lowest_place, slot_from, smaller,
 };
+use crate::ranges::ranges_of;
 use crate::steps::{MOST_ADDED, fresh};
 use std::alloc::{AllocError, Global};
 use std::marker::Model;
@@ -141,6 +142,27 @@ impl Tlsf {
             found,
             want,
         )
+    }
+
+    /// The lowest place of a request that ends at or below `limit`, of which nothing is taken.
+    pub fn lowest_below(&self, bytes: u64, align: u64, kind: Kind, limit: u64) -> Option<u64>
+        requires { IsRequest bytes align }
+        ensures { result ≡ lowest (all_taken self.now) (record { size = bytes; align = align; kind = kind }) 0 (min limit self.now.size) }
+    {
+        let want = Want {
+            size: bytes,
+            align,
+            kind,
+        };
+        if bytes > self.size {
+            return None;
+        }
+        let high = smaller(limit, self.size);
+        let found = lowest_place(&self.nodes, self.first, want, high);
+        match found {
+            Some(place) => Some(place.start),
+            None => None,
+        }
     }
 
     /// Gives back the range that starts here.
@@ -345,45 +367,4 @@ fn whole(size: u64) -> Node
         next_free: None,
         state: RangeState::Free,
     }
-}
-
-/// The ranges that are taken, by slot.
-fn ranges_of(alloc: Global, nodes: &Filled) -> Result<Vec<TakenRange>, AllocError>
-    ensures { IfOk result (λ ranges. map taken_of ranges.items ≡ taken_in nodes.now) }
-{
-    let mut ranges = Vec::new(alloc);
-    for slot in 0..nodes.slots() {
-        if let Some(range) = range_of_slot(nodes, slot as u32) {
-            ranges.push(range)?;
-        }
-    }
-    Ok(ranges)
-}
-
-/// What is taken by the range of a slot, if there is one and it is taken.
-fn range_of_slot(nodes: &Filled, slot: u32) -> Option<TakenRange>
-    ensures { IsTakenHere nodes.now slot result }
-{
-    let node = nodes.find(slot)?;
-    if node.size == 0 {
-        None
-    } else {
-        taken_range(node)
-    }
-}
-
-/// What is taken by a range, if it is.
-fn taken_range(node: Node) -> Option<TakenRange>
-    ensures { IsTakenBy node result }
-{
-    let kind = match node.state {
-        RangeState::Free => return None,
-        RangeState::Linear => Kind::Linear,
-        RangeState::Optimal => Kind::Optimal,
-    };
-    Some(TakenRange {
-        start: node.start,
-        size: node.size,
-        kind,
-    })
 }

@@ -24,3 +24,13 @@ pub record IsLowerTaken (old new : List PoolBlock) (from : BlockStart) (r : Requ
   pub before : NoneLower old from r i
   pub target : lower_in from r (get_or old i no_block) ≡ Some (record { block = (get_or old i no_block).number; start = start })
   pub changed : AreAlike (set old i (record (get_or old i no_block) { block = block_with (block_at old i) r false start })) new
+
+-- A start in the block of a number.
+abbrev pub at_start : ℕ → ℕ → BlockStart
+at_start number start = record { block = number; start = start }
+
+-- The block at an index is the first that has a target, and this is where it starts.
+pub record IsLowest (blocks : List PoolBlock) (from : BlockStart) (r : Request) (i start : ℕ) : Type 0 where
+  pub there : i < length blocks
+  pub before : NoneLower blocks from r i
+  pub target : lower_in from r (get_or blocks i no_block) ≡ Some (record { block = (get_or blocks i no_block).number; start = start })

@@ -1,8 +1,8 @@
 use Rattle.std.proofs.Common.{subst, ◌+◌, arith}
 use Rattle.vma_tlsf.specs.Inner.Listed.{IsTakenHere}
 use Rattle.vma_tlsf.proofs.Listing.{with_more, with_default}
-use Rattle.vma_tlsf.proofs.tlsf.ranges_of.Goals.{in-Some+in_ok-push, in_default}
-use Rattle.vma_tlsf.proofs.tlsf.ranges_of.Goals as goal
+use Rattle.vma_tlsf.proofs.ranges.ranges_of.Goals.{in-Some+in_ok-push, in_default}
+use Rattle.vma_tlsf.proofs.ranges.ranges_of.Goals as goal
 
 pub loop-slot-preserved : goal.loop-slot-preserved
 loop-slot-preserved c = elim c.match-range_of_slot.branch [
