@@ -8,3 +8,7 @@ pub mod Giving
 pub mod Pools
 pub mod Ranks
 pub mod PassRanks
+pub mod PassMoves
+pub mod PoolNumbers
+pub mod PassBegins
+pub mod RankSums

@@ -9,3 +9,4 @@ pub mod Pools
 pub mod Allocations
 pub mod PlaceLaws
 pub mod PassRanks
+pub mod PassLaws

@@ -9,6 +9,7 @@ mod laws;
 mod layout;
 mod making;
 mod masks;
+mod passes;
 mod places;
 mod point;
 mod resource;
@@ -34,6 +35,7 @@ pub use laws::{
 };
 pub use layout::{Format, Layout};
 pub use masks::{Accesses, Stages, Usage};
+pub use passes::{freeing_lowers_ranks, moves_stay_down, passes_lead_down, ranks_are_bounded};
 pub use places::{
     blocks_give, linear_frees, linear_stays, linear_takes, passes_lower_ranks, pool_stays,
     putting_is_sound, ranks_fall, subresources_hold, taking_away_is_sound, texels_apart,

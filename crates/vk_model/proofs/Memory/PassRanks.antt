@@ -10,15 +10,16 @@ use Rattle.vk_model.specs.Memory.MoveTargets.{Numbered, BlockStart, Resident, Mo
 use Rattle.vk_model.specs.Memory.Pools.{Pool, PoolBlock, block_bytes, block_taken, numbered_blocks, blocks_below, rank, rank_sum, pool_without, block_without, has_some_taken, in_block, with_change}
 use Rattle.vk_model.specs.Memory.Room.{Block}
 use Rattle.vk_model.specs.Memory.Allocations.{PoolMemory, without_resident, moved_to, move_ended, pass_ended}
+use Rattle.vk_model.proofs.Memory.Pools.{same_number}
 use Rattle.vk_model.proofs.Lists.Members.{contains-head, contains-tail, contains-cons, map_has, mapped_from, none_in}
 use Rattle.vk_model.specs.Memory.PassRanks.{IsDown, AreOnce, made_moves, PassesLowerRanks}
 
 -- ---- blocks that are given back
 
-abbrev below_of : List PoolBlock → ℕ → ℕ
+abbrev pub below_of : List PoolBlock → ℕ → ℕ
 below_of blocks n = blocks_below (numbered_blocks blocks) n
 
-one_more : (b : PoolBlock) (bs : List PoolBlock) (n : ℕ) → below_of (b ∷ bs) n ≡ cond (nat_lt b.number n) 1 0 + below_of bs n
+pub one_more : (b : PoolBlock) (bs : List PoolBlock) (n : ℕ) → below_of (b ∷ bs) n ≡ cond (nat_lt b.number n) 1 0 + below_of bs n
 one_more b bs n = sum_by-cons (λ (c : Numbered). cond (nat_lt c.number n) 1 0) (record { number = b.number; size = block_bytes b.block; taken = block_taken b.block }) (numbered_blocks bs)
 
 filtered_below : (f : PoolBlock → Bool) (bs : List PoolBlock) (n : ℕ) → below_of (filter f bs) n ≤ below_of bs n
@@ -29,14 +30,7 @@ filtered_below f (b ∷ bs) n = go (f b) (filtered_below f bs n)
     go true le = let first = one_more b (filter f bs) n in let whole = one_more b bs n in omega (arith, le, first, whole)
     go false le = let whole = one_more b bs n in omega (arith, le, whole)
 
-same_number : (change : Block → Block) (k : ℕ) (b : PoolBlock) → (with_change change k b).number ≡ b.number
-same_number change k b = go (b.number == k)
-  where
-    go : (t : Bool) → (if t then record b { block = change b.block } else b).number ≡ b.number
-    go true = refl
-    go false = refl
-
-changed_below : (change : Block → Block) (k : ℕ) (bs : List PoolBlock) (n : ℕ) → below_of (in_block change k bs) n ≡ below_of bs n
+pub changed_below : (change : Block → Block) (k : ℕ) (bs : List PoolBlock) (n : ℕ) → below_of (in_block change k bs) n ≡ below_of bs n
 changed_below change k [] n = refl
 changed_below change k (b ∷ bs) n =
     one_more (with_change change k b) (in_block change k bs) n
@@ -45,10 +39,10 @@ changed_below change k (b ∷ bs) n =
     ∙ sym (one_more b bs n)
 
 -- no more blocks are below any number
-abbrev Shrinks : Pool → Pool → Type 0
+abbrev pub Shrinks : Pool → Pool → Type 0
 Shrinks p e = (n : ℕ) → below_of e.blocks n ≤ below_of p.blocks n
 
-without_shrinks : (p : Pool) (s : BlockStart) → Shrinks p (pool_without p s)
+pub without_shrinks : (p : Pool) (s : BlockStart) → Shrinks p (pool_without p s)
 without_shrinks p s n =
     let less = filtered_below has_some_taken (in_block (λ b. block_without b s.start) s.block p.blocks) n in
     let same = changed_below (λ b. block_without b s.start) s.block p.blocks n in
@@ -58,7 +52,7 @@ all_shrink : (rs : List Resident) (p : Pool) → Shrinks p (fold (λ p a. pool_w
 all_shrink [] p n = omega arith
 all_shrink (a ∷ rs) p n = let first = without_shrinks p a.from n in let rest = all_shrink rs (pool_without p a.from) n in omega (arith, first, rest)
 
-lost_shrinks : (i : ℕ) (q : PoolMemory) → Shrinks q.pool (without_resident i q).pool
+pub lost_shrinks : (i : ℕ) (q : PoolMemory) → Shrinks q.pool (without_resident i q).pool
 lost_shrinks i q n = all_shrink (filter (λ a. a.id == i) q.residents) q.pool n
 
 ended_shrinks : (kept : List ℕ) (q : PoolMemory) (m : Moved) → Shrinks q.pool (move_ended kept q m).pool
@@ -68,11 +62,11 @@ ended_shrinks kept q m n = go (among m.id kept)
     go true = without_shrinks q.pool m.to n
     go false = all_shrink (filter (λ a. a.id == m.id) q.residents) q.pool n
 
-moves_shrink : (kept : List ℕ) (ms : List Moved) (q : PoolMemory) → Shrinks q.pool (fold (move_ended kept) q ms).pool
+pub moves_shrink : (kept : List ℕ) (ms : List Moved) (q : PoolMemory) → Shrinks q.pool (fold (move_ended kept) q ms).pool
 moves_shrink kept [] q n = omega arith
 moves_shrink kept (m ∷ ms) q n = let first = ended_shrinks kept q m n in let rest = moves_shrink kept ms (move_ended kept q m) n in omega (arith, first, rest)
 
-all_lost_shrink : (lost : List ℕ) (q : PoolMemory) → Shrinks q.pool (fold (λ o i. without_resident i o) q lost).pool
+pub all_lost_shrink : (lost : List ℕ) (q : PoolMemory) → Shrinks q.pool (fold (λ o i. without_resident i o) q lost).pool
 all_lost_shrink [] q n = omega arith
 all_lost_shrink (i ∷ lost) q n = let first = lost_shrinks i q n in let rest = all_lost_shrink lost (without_resident i q) n in omega (arith, first, rest)
 
@@ -85,11 +79,11 @@ module _ (size : ℕ) (blocks : List Numbered) where
   abbrev sum : List Resident → ℕ
   sum rs = rank_sum size blocks rs
 
-  sum_more : (a : Resident) (rs : List Resident) → sum (a ∷ rs) ≡ rank_of a + sum rs
+  pub sum_more : (a : Resident) (rs : List Resident) → sum (a ∷ rs) ≡ rank_of a + sum rs
   sum_more a rs = sum_by-cons rank_of a rs
 
   -- fewer resources have no greater sum
-  filter_sum : (f : Resident → Bool) (rs : List Resident) → sum (filter f rs) ≤ sum rs
+  pub filter_sum : (f : Resident → Bool) (rs : List Resident) → sum (filter f rs) ≤ sum rs
   filter_sum f [] = omega arith
   filter_sum f (a ∷ rs) = go (f a) (filter_sum f rs)
     where
@@ -97,7 +91,7 @@ module _ (size : ℕ) (blocks : List Numbered) where
       go true le = let first = sum_more a (filter f rs) in let whole = sum_more a rs in omega (arith, le, first, whole)
       go false le = let whole = sum_more a rs in omega (arith, le, whole)
 
-  lost_sum : (lost : List ℕ) (q : PoolMemory) → sum (fold (λ o i. without_resident i o) q lost).residents ≤ sum q.residents
+  pub lost_sum : (lost : List ℕ) (q : PoolMemory) → sum (fold (λ o i. without_resident i o) q lost).residents ≤ sum q.residents
   lost_sum [] q = omega arith
   lost_sum (i ∷ lost) q = let first = filter_sum (λ a. not (a.id == i)) q.residents in let rest = lost_sum lost (without_resident i q) in omega (arith, first, rest)
 
@@ -146,7 +140,7 @@ module _ (size : ℕ) (blocks : List Numbered) where
           )
     ]
 
-    moved_id : (a : Resident) → (moved_to m a).id ≡ a.id
+    pub moved_id : (a : Resident) → (moved_to m a).id ≡ a.id
     moved_id a = go (a.id == m.id)
       where
         go : (t : Bool) → (if t then record a { from = m.to } else a).id ≡ a.id
@@ -205,7 +199,7 @@ module _ (size : ℕ) (blocks : List Numbered) where
           let less = made_sum m q.residents first.lower first.resident first.there first.its in
           omega (arith, rest, count, sums, less)
 
-  moves_sum : (kept : List ℕ) (ms : List Moved) (q : PoolMemory) → ((m : Moved) → Contains ms m → IsDown size blocks q.residents m) → AreOnce ms → sum (fold (move_ended kept) q ms).residents + made_moves kept ms ≤ sum q.residents
+  pub moves_sum : (kept : List ℕ) (ms : List Moved) (q : PoolMemory) → ((m : Moved) → Contains ms m → IsDown size blocks q.residents m) → AreOnce ms → sum (fold (move_ended kept) q ms).residents + made_moves kept ms ≤ sum q.residents
   moves_sum kept [] q down once = omega arith
   moves_sum kept (m ∷ ms) q down once =
       one_move kept m ms q down once (λ each. moves_sum kept ms (move_ended kept q m) each once.1)
@@ -215,10 +209,10 @@ module _ (size : ℕ) (blocks : List Numbered) where
 mul_grows : (a b k : ℕ) → a ≤ b → a * k ≤ b * k
 mul_grows a b k le = mul-le-mul_right k le
 
-rank_falls : (size : ℕ) (old new : List Numbered) → ((n : ℕ) → blocks_below new n ≤ blocks_below old n) → (s : BlockStart) → rank size new s ≤ rank size old s
+pub rank_falls : (size : ℕ) (old new : List Numbered) → ((n : ℕ) → blocks_below new n ≤ blocks_below old n) → (s : BlockStart) → rank size new s ≤ rank size old s
 rank_falls size old new less s = let le = mul_grows (blocks_below new s.block) (blocks_below old s.block) (size / 16) (less s.block) in omega (arith, le)
 
-sums_fall : (size : ℕ) (old new : List Numbered) → ((n : ℕ) → blocks_below new n ≤ blocks_below old n) → (rs : List Resident) → rank_sum size new rs ≤ rank_sum size old rs
+pub sums_fall : (size : ℕ) (old new : List Numbered) → ((n : ℕ) → blocks_below new n ≤ blocks_below old n) → (rs : List Resident) → rank_sum size new rs ≤ rank_sum size old rs
 sums_fall size old new less [] = omega arith
 sums_fall size old new less (a ∷ rs) =
     let one = sum_more size new a rs in

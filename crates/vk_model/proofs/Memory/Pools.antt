@@ -62,7 +62,7 @@ abbrev Rises : PoolBlock → PoolBlock → Type 0
 Rises b c = b.number < c.number
 
 module _ (change : Block → Block) (n : ℕ) where
-  same_number : (b : PoolBlock) → (with_change change n b).number ≡ b.number
+  pub same_number : (b : PoolBlock) → (with_change change n b).number ≡ b.number
   same_number b = go (b.number == n)
     where
       go : (v : Bool) → (if v then record b { block = change b.block } else b).number ≡ b.number

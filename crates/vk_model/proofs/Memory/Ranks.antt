@@ -19,13 +19,13 @@ use Rattle.vk_model.proofs.Memory.LinearBlocks.{find_passes}
 -- ---- where a resource goes
 
 -- an earlier block, or a lower start of its own one
-abbrev Lower : Resident → BlockStart → Numbered → Type 0
+abbrev pub Lower : Resident → BlockStart → Numbered → Type 0
 Lower a s b = ((b.number < a.from.block) × (s.start + a.request.size ≤ b.size)) ⊎ ((b.number ≡ a.from.block) × (s.start + a.request.size ≤ a.from.start))
 
 lowest_ends : (taken : List Taken) (r : Request) (high start : ℕ) → lowest taken r 0 high ≡ Some start → start + r.size ≤ high
 lowest_ends taken r high start e = (fitting taken r 0 high start (find_passes (fits taken r 0 high) (below (suc high)) start e)).below
 
-goes : (a : Resident) (b : Numbered) (s : BlockStart) → place_in a b ≡ Some s → (s.block ≡ b.number) × Lower a s b
+pub goes : (a : Resident) (b : Numbered) (s : BlockStart) → place_in a b ≡ Some s → (s.block ≡ b.number) × Lower a s b
 goes a b s e = first (nat_lt b.number a.from.block) refl e
   where
     found : (high : ℕ) (o : Option ℕ) → option_map (λ start. record { block = b.number; start = start }) o ≡ Some s → o ≡ lowest b.taken a.request 0 high
@@ -48,25 +48,25 @@ goes a b s e = first (nat_lt b.number a.from.block) refl e
 
 -- ---- how many blocks are below
 
-one_more : (b : Numbered) (bs : List Numbered) (n : ℕ) → blocks_below (b ∷ bs) n ≡ cond (nat_lt b.number n) 1 0 + blocks_below bs n
+pub one_more : (b : Numbered) (bs : List Numbered) (n : ℕ) → blocks_below (b ∷ bs) n ≡ cond (nat_lt b.number n) 1 0 + blocks_below bs n
 one_more b bs n = sum_by-cons (λ (c : Numbered). cond (nat_lt c.number n) 1 0) b bs
 
-no_fewer : (m n k : ℕ) → n ≤ k → cond (nat_lt m n) 1 0 ≤ cond (nat_lt m k) 1 0
+pub no_fewer : (m n k : ℕ) → n ≤ k → cond (nat_lt m n) 1 0 ≤ cond (nat_lt m k) 1 0
 no_fewer m n k le = grind (arith, nat_tests)
 
-below_grows : (bs : List Numbered) (n k : ℕ) → n ≤ k → blocks_below bs n ≤ blocks_below bs k
+pub below_grows : (bs : List Numbered) (n k : ℕ) → n ≤ k → blocks_below bs n ≤ blocks_below bs k
 below_grows [] n k le = omega arith
 below_grows (b ∷ bs) n k le = omega (arith, one_more b bs n, one_more b bs k, no_fewer b.number n k le, below_grows bs n k le)
 
-counts_itself : (m n k : ℕ) → m ≡ n → m < k → cond (nat_lt m n) 1 0 + 1 ≤ cond (nat_lt m k) 1 0
+pub counts_itself : (m n k : ℕ) → m ≡ n → m < k → cond (nat_lt m n) 1 0 + 1 ≤ cond (nat_lt m k) 1 0
 counts_itself m n k same less = grind (arith, nat_tests)
 
 -- it goes to an earlier block, which has fewer below it, or further down in its own one
-abbrev Falls : ℕ → List Numbered → Resident → BlockStart → Type 0
+abbrev pub Falls : ℕ → List Numbered → Resident → BlockStart → Type 0
 Falls size blocks a s = ((s.block < a.from.block) × (blocks_below blocks s.block < blocks_below blocks a.from.block) × (s.start + a.request.size ≤ size))
     ⊎ ((s.block ≡ a.from.block) × (s.start + a.request.size ≤ a.from.start))
 
-falls : (size : ℕ) (blocks : List Numbered) (a : Resident) (s : BlockStart) → All (λ b. b.size ≡ size) blocks → move_target blocks a ≡ Some s → Falls size blocks a s
+pub falls : (size : ℕ) (blocks : List Numbered) (a : Resident) (s : BlockStart) → All (λ b. b.size ≡ size) blocks → move_target blocks a ≡ Some s → Falls size blocks a s
 falls size [] a s sizes e = absurd cc
 falls size (b ∷ bs) a s sizes e = go (place_in a b) refl e (λ later. falls size bs a s (All-tail (λ c. c.size ≡ size) b bs sizes) later)
   where

@@ -1,0 +1,53 @@
+-- Laws of the passes of a defragmentation: their moves lead down, and come to an end.
+use Rattle.std.specs.Prelude.{◌≡◌, ℕ, ◌+◌, ◌*◌, ◌/◌, ◌<◌, ◌≤◌, List, length, Bool, All, Contains}
+use Rattle.vk_model.specs.Memory.Suballocation.{Request}
+use Rattle.vk_model.specs.Memory.MoveTargets.{Numbered, BlockStart, Resident}
+use Rattle.vk_model.specs.Memory.Pools.{Pool, block_bytes, numbered_blocks, pool_without, rank, rank_sum}
+use Rattle.vk_model.specs.Memory.Allocations.{PoolMemory, Defragmentation, PassBegins, with_resident, without_resident}
+use Rattle.vk_model.specs.Memory.PassRanks.{MovesLeadDown}
+
+-- ---- pools whose resources have ranks
+
+-- The blocks of a pool have one size, and numbers below the next one; no two of its resources have one id, and each asks at least 16 bytes (VMA, "Custom memory pools"; numbers and 16: profile).
+pub record IsRanked (size : ℕ) (q : PoolMemory) : Type 0 where
+  pub sizes : All (λ b. block_bytes b.block ≡ size) q.pool.blocks
+  pub before_next : All (λ b. b.number < q.pool.next) q.pool.blocks
+  pub ids : (a b : Resident) → Contains q.residents a → Contains q.residents b → a.id ≡ b.id → a ≡ b
+  pub some : All (λ a. 16 ≤ a.request.size) q.residents
+
+-- A place lies in one of these blocks, at least 16 bytes before its end (profile).
+pub record IsPlaceIn (size : ℕ) (blocks : List Numbered) (s : BlockStart) : Type 0 where
+  pub block : Numbered
+  pub there : Contains blocks block
+  pub number : block.number ≡ s.block
+  pub inside : s.start + 16 ≤ size
+
+-- The resources of a pool and the targets of its open pass lie in its blocks (VMA, "Defragmentation").
+pub record AllArePlaced (size : ℕ) (q : PoolMemory) : Type 0 where
+  pub residents : All (λ a. IsPlaceIn size (numbered_blocks q.pool.blocks) a.from) q.residents
+  pub targets : All (λ m. IsPlaceIn size (numbered_blocks q.pool.blocks) m.to) q.moves
+
+-- ---- moves lead down
+
+-- The moves of a pass that begins lead down, each resource once, and to places in the pool's blocks.
+pub record PassesLeadDown : Type 0 where
+  pub down : (size : ℕ) (f : Defragmentation) (q e : PoolMemory) → IsRanked size q → PassBegins f q e → MovesLeadDown size e
+  pub inside : (size : ℕ) (f : Defragmentation) (q e : PoolMemory) → IsRanked size q → AllArePlaced size q → PassBegins f q e → AllArePlaced size e
+
+-- Moves that lead down still do so when the pool gets a resource of a new id, in a new block too.
+abbrev pub MovesStayDown : Type 0
+MovesStayDown = (size : ℕ) (q : PoolMemory) (i : ℕ) (r : Request) (upper : Bool) (s : BlockStart) → AllArePlaced size q → ((a : Resident) → Contains q.residents a → a.id ≡ i → ⊥)
+    → MovesLeadDown size q → MovesLeadDown size (with_resident q i r upper s)
+
+-- ---- sums of ranks
+
+-- Resources that lie in the blocks have ranks below the number of places, so that their sum, with one more for each resource, is at most the resources times the places.
+abbrev pub RanksAreBounded : Type 0
+RanksAreBounded = (size : ℕ) (blocks : List Numbered) (residents : List Resident) → All (λ a. IsPlaceIn size blocks a.from) residents
+    → rank_sum size blocks residents + length residents ≤ length residents * (length blocks * (size / 16))
+
+-- No rank, and no sum of ranks, is greater when a range is given back or a resource has ended.
+pub record FreeingLowersRanks : Type 0 where
+  pub place : (size : ℕ) (p : Pool) (freed s : BlockStart) → rank size (numbered_blocks (pool_without p freed).blocks) s ≤ rank size (numbered_blocks p.blocks) s
+  pub resident : (size : ℕ) (i : ℕ) (q : PoolMemory)
+      → rank_sum size (numbered_blocks (without_resident i q).pool.blocks) (without_resident i q).residents ≤ rank_sum size (numbered_blocks q.pool.blocks) q.residents

@@ -1,0 +1,23 @@
+//! Laws of the passes of a defragmentation, each the contract of a function that does nothing.
+ghost use Rattle.vk_model.specs.Memory.PassLaws.{PassesLeadDown, MovesStayDown, RanksAreBounded, FreeingLowersRanks};
+
+/// The moves of a pass that begins lead to lower ranks, each resource once, and to places in the
+/// pool's blocks.
+pub fn passes_lead_down()
+    ensures { PassesLeadDown }
+{}
+
+/// Moves that lead down still do so when the pool gets a resource, or one that isn't moved ends.
+pub fn moves_stay_down()
+    ensures { MovesStayDown }
+{}
+
+/// The sum of the ranks of resources is at most the resources times the places.
+pub fn ranks_are_bounded()
+    ensures { RanksAreBounded }
+{}
+
+/// No rank, and no sum of ranks, is greater when memory has been given back.
+pub fn freeing_lowers_ranks()
+    ensures { FreeingLowersRanks }
+{}
