@@ -12,3 +12,4 @@ pub mod PassMoves
 pub mod PoolNumbers
 pub mod PassBegins
 pub mod RankSums
+pub mod PassesEnd

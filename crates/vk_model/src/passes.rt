@@ -1,5 +1,5 @@
 //! Laws of the passes of a defragmentation, each the contract of a function that does nothing.
-ghost use Rattle.vk_model.specs.Memory.PassLaws.{PassesLeadDown, MovesStayDown, RanksAreBounded, FreeingLowersRanks};
+ghost use Rattle.vk_model.specs.Memory.PassLaws.{PassesLeadDown, MovesStayDown, RanksAreBounded, FreeingLowersRanks, PassesEnd, NoMovesLeft};
 
 /// The moves of a pass that begins lead to lower ranks, each resource once, and to places in the
 /// pool's blocks.
@@ -20,4 +20,15 @@ pub fn ranks_are_bounded()
 /// No rank, and no sum of ranks, is greater when memory has been given back.
 pub fn freeing_lowers_ranks()
     ensures { FreeingLowersRanks }
+{}
+
+/// While no resource is made in a pool, at most as many passes end with a move that was made as it
+/// has resources times places.
+pub fn passes_end()
+    ensures { PassesEnd }
+{}
+
+/// A pass without limits has no moves exactly where no resource has a move target.
+pub fn no_moves_left()
+    ensures { NoMovesLeft }
 {}

@@ -2,11 +2,12 @@
 use Rattle.std.proofs.Common.{◌≡◌, ◌⊎◌, inl, inr, ⊎_elim, ℕ, ◌+◌, ◌*◌, ◌/◌, ◌<◌, ◌≤◌, List, [], ◌∷◌, Bool, true, false, cond, ◌==◌, nat_lt, refl, ap, sym, ◌∙◌, subst, arith}
 use Rattle.std.specs.Prelude.{All, AllPairs, Contains, Option, Some, None, if◌then◌else◌}
 use Rattle.std.specs.Option.{option_or}
-use Rattle.std.proofs.lemmas.List.Elements.{All-cons, All-head, All-tail, All-contains}
+use Rattle.std.proofs.lemmas.List.Elements.{All-nil, All-cons, All-head, All-tail, All-contains}
 use Rattle.vk_model.specs.Memory.Suballocation.{Request, taken_at}
 use Rattle.vk_model.specs.Memory.MoveTargets.{Numbered, BlockStart, Resident, Moved, place_in, move_target, reserved, over_limit, moves_from}
 use Rattle.vk_model.specs.Memory.Pools.{blocks_below, rank, IsHigher}
 use Rattle.vk_model.specs.Memory.PassRanks.{AreOnce}
+use Rattle.vk_model.specs.Memory.PassLaws.{NoMovesLeft}
 use Rattle.vk_model.proofs.Lists.Members.{contains-head, contains-tail, contains-cons, none_in}
 use Rattle.vk_model.proofs.Memory.AllPairs.{pairs_first, pairs_rest}
 use Rattle.vk_model.proofs.Memory.Ranks.{Falls, falls, goes, one_more, ranks_fall}
@@ -198,3 +199,22 @@ module _ (size max_bytes max_moves : ℕ) where
       go : (o : Option BlockStart) → AreOnce (chosen bytes count blocks rest) → ((s : BlockStart) → AreOnce (later bytes count blocks a rest s)) → AreOnce (after_target bytes count blocks a rest o)
       go None pass more = pass
       go (Some s) pass more = limit s (over_limit max_bytes max_moves bytes count a.request.size) (more s)
+
+-- ---- a pass without limits
+
+none_left : (blocks : List Numbered) (listed : List Resident) (bytes count : ℕ) → moves_from 0 0 bytes count blocks listed ≡ [] → All (λ a. move_target blocks a ≡ None) listed
+none_left blocks [] bytes count none = All-nil (λ a. move_target blocks a ≡ None)
+none_left blocks (a ∷ rest) bytes count none = go (move_target blocks a) refl none (none_left blocks rest bytes count)
+  where
+    go : (o : Option BlockStart) → move_target blocks a ≡ o → after_target 0 0 0 bytes count blocks a rest o ≡ [] → (moves_from 0 0 bytes count blocks rest ≡ [] → All (λ b. move_target blocks b ≡ None) rest)
+        → All (λ b. move_target blocks b ≡ None) (a ∷ rest)
+    go None e is more = All-cons (λ b. move_target blocks b ≡ None) a rest e (more is)
+    go (Some s) e is more = absurd cc
+
+all_passed : (blocks : List Numbered) (listed : List Resident) (bytes count : ℕ) → All (λ a. move_target blocks a ≡ None) listed → moves_from 0 0 bytes count blocks listed ≡ []
+all_passed blocks [] bytes count none = refl
+all_passed blocks (a ∷ rest) bytes count none =
+    ap (after_target 0 0 0 bytes count blocks a rest) (All-head (λ b. move_target blocks b ≡ None) a rest none) ∙ (all_passed blocks rest bytes count (All-tail (λ b. move_target blocks b ≡ None) a rest none))
+
+pub no_moves_left : NoMovesLeft
+no_moves_left blocks listed = (none_left blocks listed 0 0, all_passed blocks listed 0 0)

@@ -1,10 +1,10 @@
 -- Laws of the passes of a defragmentation: their moves lead down, and come to an end.
-use Rattle.std.specs.Prelude.{◌≡◌, ℕ, ◌+◌, ◌*◌, ◌/◌, ◌<◌, ◌≤◌, List, length, Bool, All, Contains}
+use Rattle.std.specs.Prelude.{◌≡◌, ℕ, ◌+◌, ◌*◌, ◌/◌, ◌<◌, ◌≤◌, List, [], ◌∷◌, length, sum, count_by, nat_lt, Bool, None, All, Contains, ◌↔◌}
 use Rattle.vk_model.specs.Memory.Suballocation.{Request}
-use Rattle.vk_model.specs.Memory.MoveTargets.{Numbered, BlockStart, Resident}
+use Rattle.vk_model.specs.Memory.MoveTargets.{Numbered, BlockStart, Resident, move_target, pass_moves}
 use Rattle.vk_model.specs.Memory.Pools.{Pool, block_bytes, numbered_blocks, pool_without, rank, rank_sum}
-use Rattle.vk_model.specs.Memory.Allocations.{PoolMemory, Defragmentation, PassBegins, with_resident, without_resident}
-use Rattle.vk_model.specs.Memory.PassRanks.{MovesLeadDown}
+use Rattle.vk_model.specs.Memory.Allocations.{PoolMemory, Defragmentation, PassBegins, pass_ended, with_resident, without_resident}
+use Rattle.vk_model.specs.Memory.PassRanks.{MovesLeadDown, made_moves}
 
 -- ---- pools whose resources have ranks
 
@@ -51,3 +51,27 @@ pub record FreeingLowersRanks : Type 0 where
   pub place : (size : ℕ) (p : Pool) (freed s : BlockStart) → rank size (numbered_blocks (pool_without p freed).blocks) s ≤ rank size (numbered_blocks p.blocks) s
   pub resident : (size : ℕ) (i : ℕ) (q : PoolMemory)
       → rank_sum size (numbered_blocks (without_resident i q).pool.blocks) (without_resident i q).residents ≤ rank_sum size (numbered_blocks q.pool.blocks) q.residents
+
+-- ---- passes come to an end
+
+-- What happens to a pool while no resource is made in it: a pass begins, it ends, or a resource ends (VMA, "Defragmentation").
+pub data PoolStep : Type 0 where
+  PassBegan : Defragmentation → PoolStep
+  PassEnded : (kept lost : List ℕ) → PoolStep
+  ResourceEnded : ℕ → PoolStep
+
+-- These steps happen to a pool, one after another, and at the end of each pass so many moves are made; no resource ends while there are moves (VMA, "Defragmentation").
+abbrev pub Happens : PoolMemory → List PoolStep → List ℕ → Type 0
+Happens q [] made = made ≡ []
+Happens q (PassBegan f ∷ steps) made = (e : PoolMemory) × PassBegins f q e × Happens e steps made
+Happens q (PassEnded kept lost ∷ steps) made = (later : List ℕ) × (made ≡ made_moves kept q.moves ∷ later) × Happens (pass_ended kept lost q) steps later
+Happens q (ResourceEnded i ∷ steps) made = (q.moves ≡ []) × Happens (without_resident i q) steps made
+
+-- While no resource is made in a pool, at most as many moves are made as it has resources times places, and so at most as many passes end with a move that was made.
+abbrev pub PassesEnd : Type 0
+PassesEnd = (size : ℕ) (q : PoolMemory) (steps : List PoolStep) (made : List ℕ) → IsRanked size q → AllArePlaced size q → q.moves ≡ [] → Happens q steps made
+    → (count_by (λ k. nat_lt 0 k) made ≤ sum made) × (sum made ≤ length q.residents * (length q.pool.blocks * (size / 16)))
+
+-- A pass without limits has no moves exactly where no resource has a move target.
+abbrev pub NoMovesLeft : Type 0
+NoMovesLeft = (blocks : List Numbered) (listed : List Resident) → (pass_moves 0 0 blocks listed ≡ []) ↔ All (λ a. move_target blocks a ≡ None) listed
