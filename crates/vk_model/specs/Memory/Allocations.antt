@@ -10,7 +10,7 @@ use Rattle.vk_model.specs.Trace.Objects.{Resource, of_buffer, of_image}
 use Rattle.vk_model.specs.Memory.HeapSizes.{HeapSizes}
 use Rattle.vk_model.specs.Memory.Suballocation.{Request}
 use Rattle.vk_model.specs.Memory.Room.{Heaps, heap_of, no_object, request_of, NoRoomInPool}
-use Rattle.vk_model.specs.Memory.MoveTargets.{BlockStart, Resident, Moved, pass_moves}
+use Rattle.vk_model.specs.Memory.MoveTargets.{BlockStart, Resident, Moved, pass_moves, parts_of_moves}
 use Rattle.vk_model.specs.Memory.Pools.{Pool, empty_pool, state_of, numbered_blocks, Gives, pool_with, pool_without, IsByPlace}
 
 -- ---- what is allocated
@@ -204,3 +204,28 @@ pub record StopsAt (sizes : HeapSizes) (t : List Entry) (n : ℕ) (d : Allocated
 abbrev pub EndsOn : HeapSizes → List Entry → Option ℕ → Allocated → Type 0
 EndsOn sizes t None d = Reaches sizes t d
 EndsOn sizes t (Some n) d = StopsAt sizes t n d
+
+-- ---- the parts that passes copy
+
+-- How many parts are to be copied when an entry has been applied and this is allocated: those of the moves of the pass that it begins (VMA, "Defragmentation"; parts of 4,096 bytes: profile).
+abbrev pub parts_after : Allocated → Entry → ℕ
+parts_after d (entry.Pass i) = elim (defragmented i d) [
+  | None ↦ 0
+  | Some f ↦ elim (pool_by_id f.pool d) [ None ↦ 0 | Some q ↦ parts_of_moves q.moves ]
+]
+parts_after d x = 0
+
+module _ (parts : ℕ → ℕ) where
+  -- Entries are applied as by `Applied`, the first of them as entry n, and `parts` says how many parts are to be copied after each (profile).
+  abbrev pub AppliedWith : ℕ → Allocated → List Entry → Allocated → Type 0
+  AppliedWith n d [] e = e ≡ d
+  AppliedWith n d (x ∷ xs) e = (mid : Allocated) × (FindsNoRoom d x → ⊥) × Changes d x mid × (parts n ≡ parts_after mid x) × AppliedWith (n + 1) mid xs e
+
+  -- A device with heaps of these sizes may have allocated this after some entries, with these parts.
+  abbrev pub ReachesWith : HeapSizes → List Entry → Allocated → Type 0
+  ReachesWith sizes t d = AppliedWith 0 (nothing_allocated sizes) t d
+
+  -- A replay of a trace ends on a device as by `EndsOn`, with these parts (profile).
+  abbrev pub EndsOnWith : HeapSizes → List Entry → Option ℕ → Allocated → Type 0
+  EndsOnWith sizes t None d = ReachesWith sizes t d
+  EndsOnWith sizes t (Some n) d = ReachesWith sizes (take n t) d × StopsAt sizes t n d

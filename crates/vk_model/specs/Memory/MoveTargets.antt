@@ -1,5 +1,5 @@
 -- Where a pass of a defragmentation moves the resources of a pool.
-use Rattle.std.specs.Prelude.{ℕ, ◌+◌, List, [], ◌∷◌, Bool, true, false, ◌&&◌, ◌||◌, ◌==◌, nat_lt, if◌then◌else◌, Option, Some, None, option_map}
+use Rattle.std.specs.Prelude.{ℕ, ◌+◌, ◌/◌, List, [], ◌∷◌, Bool, true, false, ◌&&◌, ◌||◌, ◌==◌, nat_lt, if◌then◌else◌, Option, Some, None, option_map, sum_by}
 use Rattle.std.specs.Option.{option_or}
 use Rattle.vk_model.specs.Memory.Suballocation.{Taken, Request, taken_at}
 use Rattle.vk_model.specs.Memory.Room.{lowest}
@@ -65,3 +65,9 @@ module _ (max_bytes max_moves : ℕ) where
   -- The moves of a pass: the blocks in rising order, the resources from the highest place down (VMA, "Defragmentation"; the order: profile).
   abbrev pub pass_moves : List Numbered → List Resident → List Moved
   pass_moves blocks residents = moves_from 0 0 blocks residents
+
+-- ---- parts
+
+-- How many parts the bytes of moves are copied in: those of each move in parts of at most 4,096 bytes (VMA, "Defragmentation"; parts of 4,096 bytes: profile).
+abbrev pub parts_of_moves : List Moved → ℕ
+parts_of_moves moves = sum_by (λ m. (m.bytes + 4095) / 4096) moves
