@@ -13,3 +13,4 @@ pub mod PoolNumbers
 pub mod PassBegins
 pub mod RankSums
 pub mod PassesEnd
+pub mod Parts

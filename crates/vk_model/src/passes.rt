@@ -1,5 +1,5 @@
 //! Laws of the passes of a defragmentation, each the contract of a function that does nothing.
-ghost use Rattle.vk_model.specs.Memory.PassLaws.{PassesLeadDown, MovesStayDown, RanksAreBounded, FreeingLowersRanks, PassesEnd, NoMovesLeft};
+ghost use Rattle.vk_model.specs.Memory.PassLaws.{PassesLeadDown, MovesStayDown, RanksAreBounded, FreeingLowersRanks, PassesEnd, NoMovesLeft, PartsFollow};
 
 /// The moves of a pass that begins lead to lower ranks, each resource once, and to places in the
 /// pool's blocks.
@@ -31,4 +31,9 @@ pub fn passes_end()
 /// A pass without limits has no moves exactly where no resource has a move target.
 pub fn no_moves_left()
     ensures { NoMovesLeft }
+{}
+
+/// What is applied with parts is applied, and where entries are applied there are such parts.
+pub fn parts_follow()
+    ensures { PartsFollow }
 {}

@@ -1,9 +1,11 @@
 -- Laws of the passes of a defragmentation: their moves lead down, and come to an end.
-use Rattle.std.specs.Prelude.{◌≡◌, ℕ, ◌+◌, ◌*◌, ◌/◌, ◌<◌, ◌≤◌, List, [], ◌∷◌, length, sum, count_by, nat_lt, Bool, None, All, Contains, ◌↔◌}
+use Rattle.std.specs.Prelude.{◌≡◌, ℕ, ◌+◌, ◌*◌, ◌/◌, ◌<◌, ◌≤◌, List, [], ◌∷◌, length, sum, count_by, nat_lt, Bool, Option, None, All, Contains, ◌↔◌}
+use Rattle.vk_model.specs.declared.entry.Entry.{Entry}
+use Rattle.vk_model.specs.Memory.HeapSizes.{HeapSizes}
 use Rattle.vk_model.specs.Memory.Suballocation.{Request}
 use Rattle.vk_model.specs.Memory.MoveTargets.{Numbered, BlockStart, Resident, move_target, pass_moves}
 use Rattle.vk_model.specs.Memory.Pools.{Pool, block_bytes, numbered_blocks, pool_without, rank, rank_sum}
-use Rattle.vk_model.specs.Memory.Allocations.{PoolMemory, Defragmentation, PassBegins, pass_ended, with_resident, without_resident}
+use Rattle.vk_model.specs.Memory.Allocations.{PoolMemory, Defragmentation, Allocated, PassBegins, pass_ended, with_resident, without_resident, Applied, EndsOn, AppliedWith, EndsOnWith}
 use Rattle.vk_model.specs.Memory.PassRanks.{MovesLeadDown, made_moves}
 
 -- ---- pools whose resources have ranks
@@ -75,3 +77,11 @@ PassesEnd = (size : ℕ) (q : PoolMemory) (steps : List PoolStep) (made : List �
 -- A pass without limits has no moves exactly where no resource has a move target.
 abbrev pub NoMovesLeft : Type 0
 NoMovesLeft = (blocks : List Numbered) (listed : List Resident) → (pass_moves 0 0 blocks listed ≡ []) ↔ All (λ a. move_target blocks a ≡ None) listed
+
+-- ---- parts
+
+-- Parts take nothing away: what is applied, and what a replay ends on, with some parts is so without them, and where entries are applied there are such parts.
+pub record PartsFollow : Type 0 where
+  pub applied : (parts : ℕ → ℕ) (n : ℕ) (d : Allocated) (t : List Entry) (e : Allocated) → AppliedWith parts n d t e → Applied d t e
+  pub ends : (parts : ℕ → ℕ) (sizes : HeapSizes) (t : List Entry) (stop : Option ℕ) (d : Allocated) → EndsOnWith parts sizes t stop d → EndsOn sizes t stop d
+  pub found : (n : ℕ) (d : Allocated) (t : List Entry) (e : Allocated) → Applied d t e → (parts : ℕ → ℕ) × AppliedWith parts n d t e
