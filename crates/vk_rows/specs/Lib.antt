@@ -24,3 +24,4 @@ pub mod Addresses
 pub mod LinearBlocks
 pub mod PoolBlocks
 pub mod Stops
+pub mod Passes

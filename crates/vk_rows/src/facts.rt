@@ -7,6 +7,7 @@ ghost use Rattle.vk_rows.specs.Addresses.{Addresses};
 ghost use Rattle.vk_rows.specs.LinearBlocks.{LinearBlocks};
 ghost use Rattle.vk_rows.specs.PoolBlocks.{PoolBlocks};
 ghost use Rattle.vk_rows.specs.Stops.{Stopping};
+ghost use Rattle.vk_rows.specs.Passes.{PassRows};
 
 /// Allocations that find no room.
 pub fn no_room()
@@ -41,6 +42,12 @@ pub fn linear_blocks()
 /// Pools through allocations and frees: blocks, places, statistics and the moves of a pass.
 pub fn pool_blocks()
     ensures { PoolBlocks }
+{}
+
+/// Passes of a defragmentation: the sum of ranks, how many moves are made, and the parts that are
+/// copied.
+pub fn passes()
+    ensures { PassRows }
 {}
 
 /// Where traces stop on a device, and how far others come.

@@ -7,7 +7,8 @@ mod facts;
 mod traces;
 
 pub use facts::{
-    addresses, limits, linear_blocks, no_room, places, pool_blocks, queue_caches, stopping, work,
+    addresses, limits, linear_blocks, no_room, passes, places, pool_blocks, queue_caches, stopping,
+    work,
 };
 pub use traces::{
     ahead, easily_mistaken, images, objects, pools, queues, rules_of_access, rules_of_commands,

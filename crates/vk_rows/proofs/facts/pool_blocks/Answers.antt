@@ -1,15 +1,12 @@
-use Rattle.std.specs.Prelude.{ℕ, ◌≤◌, refl, List, [], ◌∷◌, AllPairs, IsTrue, false}
-use Rattle.std.proofs.Common.{inl, inr, arith}
-use Rattle.std.proofs.lemmas.List.Elements.{All-from_recursion}
-use Rattle.std.proofs.lemmas.List.Kept.{AllPairs-cons}
-use Rattle.std.proofs.lemmas.List.Sorted.{IsPermutation-reverse}
+use Rattle.std.specs.Prelude.{ℕ, ◌≤◌, refl, List, [], ◌∷◌, IsTrue, false}
+use Rattle.std.proofs.Common.{inr, arith}
 use Rattle.vk_model.specs.Memory.Suballocation.{Taken, is_free}
 use Rattle.vk_model.specs.Memory.Room.{Block, General, BlockHolds, CanHold}
-use Rattle.vk_model.specs.Memory.MoveTargets.{Numbered, Resident}
-use Rattle.vk_model.specs.Memory.Pools.{IsHigher, IsLargestIn}
+use Rattle.vk_model.specs.Memory.MoveTargets.{Numbered}
+use Rattle.vk_model.specs.Memory.Pools.{IsLargestIn}
 use Rattle.vk_rows.specs.NoRoom.{buffer_at, buffer_of}
-use Rattle.vk_rows.specs.Places.{resident}
-use Rattle.vk_rows.specs.PoolBlocks.{left, from_above, holed_ranges}
+use Rattle.vk_rows.specs.PoolBlocks.{holed_ranges}
+use Rattle.vk_rows.proofs.ByPlace.{by_place}
 use Rattle.vk_rows.proofs.Holding.{nowhere, neither, free_between}
 use Rattle.vk_rows.proofs.facts.pool_blocks.Goals as goal
 
@@ -27,7 +24,7 @@ returns c = record {
   };
   none_for_half = record { none_holds = neither Refuses holed_block holed_block small small; no_new = refl };
   last_at_place = record { block = hole 1; there = (1, omega arith, refl); number = refl; range = (0, omega arith, refl) };
-  by_place = record { same = IsPermutation-reverse left; falling = falling };
+  by_place = by_place;
   target_of_last = refl;
   target_of_third = refl;
   pass = refl;
@@ -65,20 +62,3 @@ returns c = record {
 
     longest : IsLargestIn holed_ranges 1024
     longest = record { found = inr (0, hole 0, omega arith, refl, (0, refl)); most = neither NoMore (hole 0) (hole 1) free_between free_between }
-
-    Higher : Resident → Resident → Type 0
-    Higher a b = IsHigher a.from b.from
-
-    none : AllPairs Higher []
-    none = λ i j d less there. absurd (omega arith)
-
-    falling : AllPairs Higher from_above
-    falling =
-        let a = resident 11 0 1024 in
-        let b = resident 13 0 3072 in
-        let c = resident 15 1 1024 in
-        let d = resident 17 1 3072 in
-        AllPairs-cons Higher d (c ∷ b ∷ a ∷ []) (All-from_recursion (Higher d) (c ∷ b ∷ a ∷ []) (inr (refl, omega arith), (inl (omega arith), (inl (omega arith), tt))))
-        (AllPairs-cons Higher c (b ∷ a ∷ []) (All-from_recursion (Higher c) (b ∷ a ∷ []) (inl (omega arith), (inl (omega arith), tt)))
-        (AllPairs-cons Higher b (a ∷ []) (All-from_recursion (Higher b) (a ∷ []) (inr (refl, omega arith), tt))
-        (AllPairs-cons Higher a [] (All-from_recursion (Higher a) [] tt) none)))
