@@ -14,3 +14,4 @@ pub mod PassBegins
 pub mod RankSums
 pub mod PassesEnd
 pub mod Parts
+pub mod PoolPlaces

@@ -1,5 +1,10 @@
 //! Laws of the passes of a defragmentation, each the contract of a function that does nothing.
-ghost use Rattle.vk_model.specs.Memory.PassLaws.{PassesLeadDown, MovesStayDown, RanksAreBounded, FreeingLowersRanks, PassesEnd, NoMovesLeft, PartsFollow};
+ghost use Rattle.vk_model.specs.Memory.PassLaws.{PlacesLieInside, PassesLeadDown, MovesStayDown, RanksAreBounded, FreeingLowersRanks, PassesEnd, NoMovesLeft, PartsFollow};
+
+/// In a pool whose blocks have one size, a resource that is at its place lies in the blocks.
+pub fn places_lie_inside()
+    ensures { PlacesLieInside }
+{}
 
 /// The moves of a pass that begins lead to lower ranks, each resource once, and to places in the
 /// pool's blocks.

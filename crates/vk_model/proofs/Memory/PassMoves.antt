@@ -29,7 +29,7 @@ target_block (b ∷ bs) a s e = go (place_in a b) refl e (target_block bs a s)
 -- ---- blocks in which a target is reserved
 
 module _ (s : BlockStart) (r : Request) where
-  abbrev with_range : Numbered → Numbered
+  abbrev pub with_range : Numbered → Numbered
   with_range b = if b.number == s.block then record b { taken = taken_at s.start r ∷ b.taken } else b
 
   range_number : (b : Numbered) → (with_range b).number ≡ b.number

@@ -4,7 +4,7 @@ use Rattle.vk_model.specs.declared.entry.Entry.{Entry}
 use Rattle.vk_model.specs.Memory.HeapSizes.{HeapSizes}
 use Rattle.vk_model.specs.Memory.Suballocation.{Request}
 use Rattle.vk_model.specs.Memory.MoveTargets.{Numbered, BlockStart, Resident, move_target, pass_moves}
-use Rattle.vk_model.specs.Memory.Pools.{Pool, block_bytes, numbered_blocks, pool_without, rank, rank_sum}
+use Rattle.vk_model.specs.Memory.Pools.{Pool, block_bytes, numbered_blocks, pool_without, IsPool, IsAt, rank, rank_sum}
 use Rattle.vk_model.specs.Memory.Allocations.{PoolMemory, Defragmentation, Allocated, PassBegins, pass_ended, with_resident, without_resident, Applied, EndsOn, AppliedWith, EndsOnWith}
 use Rattle.vk_model.specs.Memory.PassRanks.{MovesLeadDown, made_moves}
 
@@ -28,6 +28,11 @@ pub record IsPlaceIn (size : ℕ) (blocks : List Numbered) (s : BlockStart) : Ty
 pub record AllArePlaced (size : ℕ) (q : PoolMemory) : Type 0 where
   pub residents : All (λ a. IsPlaceIn size (numbered_blocks q.pool.blocks) a.from) q.residents
   pub targets : All (λ m. IsPlaceIn size (numbered_blocks q.pool.blocks) m.to) q.moves
+
+-- In a pool as it can be, whose blocks have one size, a resource of at least 16 bytes that is at its place lies in the blocks.
+abbrev pub PlacesLieInside : Type 0
+PlacesLieInside = (size : ℕ) (p : Pool) (a : Resident) → IsPool p → All (λ b. block_bytes b.block ≡ size) p.blocks → 16 ≤ a.request.size → IsAt (numbered_blocks p.blocks) a
+    → IsPlaceIn size (numbered_blocks p.blocks) a.from
 
 -- ---- moves lead down
 
