@@ -36,22 +36,36 @@ one_more parts n d mid e (y ∷ t) x steps room change here =
     let at : n + length (y ∷ t) ≡ (n + 1) + length t = omega arith in
     (steps.0, steps.1, steps.2, steps.3, one_more parts (n + 1) steps.0 mid e t x steps.4 room change (subst (λ (k : ℕ). parts k ≡ parts_after e x) at here))
 
--- the parts of entry n, before those of the later ones
-abbrev first_of : ℕ → ℕ → (ℕ → ℕ) → ℕ → ℕ
-first_of n here later k = if k == n then here else later k
+-- so many parts at entry n, and the others as they were
+abbrev pub with_part : ℕ → ℕ → (ℕ → ℕ) → ℕ → ℕ
+with_part n here parts k = if k == n then here else parts k
+
+pub part_here : (n here : ℕ) (parts : ℕ → ℕ) → with_part n here parts n ≡ here
+part_here n here parts = rw (eq-eqb n n refl) refl
+
+pub part_elsewhere : (n here : ℕ) (parts : ℕ → ℕ) (k : ℕ) → (k ≡ n → ⊥) → with_part n here parts k ≡ parts k
+part_elsewhere n here parts k other = rw (ne_eqb k n other) refl
+
+pub extended : (parts : ℕ → ℕ) (n : ℕ) (d mid e : Allocated) (t : List Entry) (x : Entry) → AppliedWith parts n d t mid → (FindsNoRoom mid x → ⊥) → Changes mid x e
+    → AppliedWith (with_part (n + length t) (parts_after e x) parts) n d (t ++ x ∷ []) e
+extended parts n d mid e t x steps room change =
+    let here = parts_after e x in
+    let last = n + length t in
+    one_more (with_part last here parts) n d mid e t x
+    (parts_agree parts (with_part last here parts) n d t mid (λ k low high. sym (part_elsewhere last here parts k (λ same. omega arith))) steps) room change (part_here last here parts)
 
 find_parts : (n : ℕ) (d : Allocated) (t : List Entry) (e : Allocated) → Applied d t e → (parts : ℕ → ℕ) × AppliedWith parts n d t e
 find_parts n d [] e h = (λ k. 0, h)
 find_parts n d (x ∷ xs) e h =
     let rest = find_parts (n + 1) h.0 xs e h.3 in
     let here = parts_after h.0 x in (
-      first_of n here rest.0,
+      with_part n here rest.0,
       (
         h.0,
         h.1,
         h.2,
-        rw (eq-eqb n n refl) refl,
-        parts_agree rest.0 (first_of n here rest.0) (n + 1) h.0 xs e (λ k low high. rw (ne_eqb k n (λ same. omega arith)) refl) rest.1,
+        part_here n here rest.0,
+        parts_agree rest.0 (with_part n here rest.0) (n + 1) h.0 xs e (λ k low high. sym (part_elsewhere n here rest.0 k (λ same. omega arith))) rest.1,
       ),
     )
 
