@@ -3,7 +3,7 @@ use Rattle.std.proofs.Common.{◌≡◌, inl, inr, ⊎_elim, ℕ, suc, ◌+◌, 
 use Rattle.std.specs.Prelude.{Contains}
 use Rattle.std.proofs.lemmas.Bool.{cases_eq, cases_lt}
 use Rattle.std.proofs.lemmas.Bool.Decides.{nat_tests}
-use Rattle.std.proofs.lemmas.List.Elements.{All-head, All-tail, All-contains}
+use Rattle.std.proofs.lemmas.List.Elements.{All-cons, All-head, All-tail, All-weaker, All-contains}
 use Rattle.vk_model.specs.Memory.Suballocation.{Request}
 use Rattle.vk_model.specs.Memory.MoveTargets.{Numbered, BlockStart, Resident, Moved}
 use Rattle.vk_model.specs.Memory.Pools.{numbered_blocks, blocks_below, rank, pool_with, pool_without}
@@ -16,6 +16,7 @@ use Rattle.vk_model.proofs.Memory.Ranks.{one_more, no_fewer, below_grows, counts
 use Rattle.vk_model.proofs.Memory.PassRanks.{without_shrinks, lost_shrinks, rank_falls, sums_fall, sum_more, filter_sum}
 use Rattle.vk_model.proofs.Memory.PassMoves.{HasNumber}
 use Rattle.vk_model.proofs.Memory.PoolNumbers.{taken_has}
+use Rattle.vk_model.proofs.Memory.PassBegins.{place_stays}
 
 -- ---- how many blocks are below one of them
 
@@ -129,5 +130,17 @@ module _ (size : ℕ) (q : PoolMemory) (placed : AllArePlaced size q) (leads : M
     once = leads.once;
   }
 
+made_placed : (size : ℕ) (q : PoolMemory) (i : ℕ) (r : Request) (upper : Bool) (s : BlockStart) → AllArePlaced size q → IsPlaceIn size (numbered_blocks (with_resident q i r upper s).pool.blocks) s
+    → AllArePlaced size (with_resident q i r upper s)
+made_placed size q i r upper s placed new =
+    let old = numbered_blocks q.pool.blocks in
+    let now = numbered_blocks (pool_with q.pool r upper s).blocks in
+    let stays = λ (t : BlockStart). place_stays size old now t (taken_has q.pool r upper s t.block) in
+    record {
+      residents = All-cons (λ a. IsPlaceIn size now a.from) (record { id = i; from = s; request = r }) q.residents new
+          (All-weaker (λ a. IsPlaceIn size old a.from) (λ a. IsPlaceIn size now a.from) (λ a h. stays a.from h) q.residents placed.residents);
+      targets = All-weaker (λ m. IsPlaceIn size old m.to) (λ m. IsPlaceIn size now m.to) (λ m h. stays m.to h) q.moves placed.targets;
+    }
+
 pub moves_stay_down : MovesStayDown
-moves_stay_down size q i r upper s placed new leads = made_down size q placed leads i r upper s new
+moves_stay_down = record { down = λ size q i r upper s placed new leads. made_down size q placed leads i r upper s new; inside = made_placed }

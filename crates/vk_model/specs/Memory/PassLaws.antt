@@ -41,10 +41,12 @@ pub record PassesLeadDown : Type 0 where
   pub down : (size : ℕ) (f : Defragmentation) (q e : PoolMemory) → IsRanked size q → PassBegins f q e → MovesLeadDown size e
   pub inside : (size : ℕ) (f : Defragmentation) (q e : PoolMemory) → IsRanked size q → AllArePlaced size q → PassBegins f q e → AllArePlaced size e
 
--- Moves that lead down still do so when the pool gets a resource of a new id, in a new block too.
-abbrev pub MovesStayDown : Type 0
-MovesStayDown = (size : ℕ) (q : PoolMemory) (i : ℕ) (r : Request) (upper : Bool) (s : BlockStart) → AllArePlaced size q → ((a : Resident) → Contains q.residents a → a.id ≡ i → ⊥)
-    → MovesLeadDown size q → MovesLeadDown size (with_resident q i r upper s)
+-- Moves that lead down still do so when the pool gets a resource of a new id, in a new block too; and where that lies in the blocks, all still do.
+pub record MovesStayDown : Type 0 where
+  pub down : (size : ℕ) (q : PoolMemory) (i : ℕ) (r : Request) (upper : Bool) (s : BlockStart) → AllArePlaced size q → ((a : Resident) → Contains q.residents a → a.id ≡ i → ⊥)
+      → MovesLeadDown size q → MovesLeadDown size (with_resident q i r upper s)
+  pub inside : (size : ℕ) (q : PoolMemory) (i : ℕ) (r : Request) (upper : Bool) (s : BlockStart) → AllArePlaced size q → IsPlaceIn size (numbered_blocks (with_resident q i r upper s).pool.blocks) s
+      → AllArePlaced size (with_resident q i r upper s)
 
 -- ---- sums of ranks
 
