@@ -47,7 +47,7 @@ targets_have (m ∷ ms) q n h = targets_have ms (with_target q m) n (all_have (f
 pub place_stays : (size : ℕ) (old new : List Numbered) (s : BlockStart) → (HasNumber old s.block → HasNumber new s.block) → IsPlaceIn size old s → IsPlaceIn size new s
 place_stays size old new s has h = let b = has (h.block, h.there, h.number) in record { block = b.0; there = b.1; number = b.2; inside = h.inside }
 
-pub each_all : {A : Type 0} (P : A → Type 0) (xs : List A) → ((x : A) → Contains xs x → P x) → All P xs
+each_all : {A : Type 0} (P : A → Type 0) (xs : List A) → ((x : A) → Contains xs x → P x) → All P xs
 each_all P xs each = All-weaker (Contains xs) P each xs (All-contains_itself xs)
 
 -- ---- the pool as a pass begins

@@ -19,7 +19,7 @@ use Rattle.vk_model.specs.Memory.PassRanks.{IsDown, AreOnce, made_moves, PassesL
 abbrev pub below_of : List PoolBlock → ℕ → ℕ
 below_of blocks n = blocks_below (numbered_blocks blocks) n
 
-pub one_more : (b : PoolBlock) (bs : List PoolBlock) (n : ℕ) → below_of (b ∷ bs) n ≡ cond (nat_lt b.number n) 1 0 + below_of bs n
+one_more : (b : PoolBlock) (bs : List PoolBlock) (n : ℕ) → below_of (b ∷ bs) n ≡ cond (nat_lt b.number n) 1 0 + below_of bs n
 one_more b bs n = sum_by-cons (λ (c : Numbered). cond (nat_lt c.number n) 1 0) (record { number = b.number; size = block_bytes b.block; taken = block_taken b.block }) (numbered_blocks bs)
 
 filtered_below : (f : PoolBlock → Bool) (bs : List PoolBlock) (n : ℕ) → below_of (filter f bs) n ≤ below_of bs n

@@ -106,7 +106,7 @@ changed_has change k blocks n h =
     )
 
 -- a pool in which something is taken, in a new block or in one that stands
-pub taken_cases : (p : Pool) (r : Request) (upper : Bool) (s : BlockStart) (P : Pool → Type 0)
+taken_cases : (p : Pool) (r : Request) (upper : Bool) (s : BlockStart) (P : Pool → Type 0)
     → P (record p { blocks = p.blocks ++ record { number = p.next; block = block_with (new_block p.info) r upper s.start } ∷ []; next = p.next + 1 })
     → P (record p { blocks = in_block (λ b. block_with b r upper s.start) s.block p.blocks })
     → P (pool_with p r upper s)
@@ -130,7 +130,7 @@ pub record Stands (p e : Pool) : Type 0 where
   pub comes : ComesFrom p e
   pub below : (n : ℕ) → below_of e.blocks n ≡ below_of p.blocks n
 
-pub taken_stands : (p : Pool) (r : Request) (upper : Bool) (s : BlockStart) → s.block < p.next → Stands p (pool_with p r upper s)
+taken_stands : (p : Pool) (r : Request) (upper : Bool) (s : BlockStart) → s.block < p.next → Stands p (pool_with p r upper s)
 taken_stands p r upper s less = rw (ne_eqb s.block p.next (λ e. omega arith)) (record {
   comes = record { next = refl; from = changed_from (λ k. block_with k r upper s.start) (λ k. with_size k r upper s.start) s.block p.blocks };
   below = changed_below (λ k. block_with k r upper s.start) s.block p.blocks;
