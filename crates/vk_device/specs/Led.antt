@@ -23,6 +23,7 @@ use Rattle.vk_transfer.specs.Ran.{HaveRun}
 use Rattle.vk_resources.specs.declared.applied.Applied.{Applied}
 use Rattle.vk_resources.specs.declared.applied.Applied.TheVariants as applied
 use Rattle.vk_resources.specs.Held.{byte_at, IsThere, HasCell}
+use Rattle.vk_resources.specs.Rest.{KeepsRest, is_written}
 use Rattle.vk_resources.specs.Matches.{MatchesLive}
 use Rattle.vk_device.specs.declared.device.Device.{Device}
 use Rattle.vk_model.specs.Trace.Supported.{is_supported}
@@ -80,6 +81,12 @@ abbrev pub HasChanged : Device → Device → Piece → Type 0
 HasChanged old new piece =
     (t : List Entry) (steps : List Step) (s : Stage) → Led t steps s old → IsSoundTrace t
     → HaveRun (named_piece s.front.past (name_of s.front.past piece)) (byte_at old.resources) (byte_at new.resources)
+
+-- Of all memory objects only the bytes that are written by it have changed: padding, and what is free or reserved in pools, are as they were (Vulkan, "Device Memory" and "Copy Commands").
+abbrev pub KeepsMemory : Device → Device → Piece → Type 0
+KeepsMemory old new piece =
+    (t : List Entry) (steps : List Step) (s : Stage) → Led t steps s old → IsSoundTrace t
+    → KeepsRest old.resources new.resources (is_written (named_piece s.front.past (name_of s.front.past piece)))
 
 -- Each byte that it has written holds what the trace means there after the command of the piece, with commands one at a time in reference order, where that is defined.
 abbrev pub HasWritten : Device → Device → Piece → Type 0

@@ -47,7 +47,7 @@ pub struct Device<'a> {
 
 impl<'a> Device<'a> {
     ghost use Rattle.vk_model.specs.Run.Runs.{start};
-    ghost use Rattle.vk_device.specs.Led.{Led, IsBefore, IsNext, MayRun, HasRun, HasWritten, HasChanged, Applies, Reads};
+    ghost use Rattle.vk_device.specs.Led.{Led, IsBefore, IsNext, MayRun, HasRun, HasWritten, HasChanged, KeepsMemory, Applies, Reads};
     ghost use Rattle.vk_device.specs.Empty.{nothing_backed};
     ghost use Rattle.vk_device.specs.Inner.Ready.{PrepareReady, Prepares, Waited, MayAsk, Goes, Picks, HostDone, AdvanceReady, Touches};
     ghost use Rattle.vk_resources.specs.Allocating.{allotted};
@@ -78,6 +78,7 @@ impl<'a> Device<'a> {
         ensures ran { HasRun self.old self.new piece }
         ensures written { HasWritten self.old self.new piece }
         ensures changed { HasChanged self.old self.new piece }
+        ensures rest { KeepsMemory self.old self.new piece }
         ensures allotted { allotted self.new.resources ≡ allotted self.old.resources }
         ensures failed { self.new.failed ≡ self.old.failed }
     {
@@ -309,6 +310,8 @@ impl<'a> Device<'a> {
         ensures ran { OnOk result (HasRun self.old self.new piece) }
         ensures written { OnOk result (HasWritten self.old self.new piece) }
         ensures changed { OnOk result (HasChanged self.old self.new piece) }
+        // Of all memory only the bytes that it writes change, also where no resource lies.
+        ensures rest { OnOk result (KeepsMemory self.old self.new piece) }
         ensures allotted { allotted self.new.resources ≡ allotted self.old.resources }
         ensures error { IfErr result (λ f. (f ≡ Failed) × IsTrue self.old.failed) }
         ensures failed { self.new.failed ≡ self.old.failed }

@@ -1,17 +1,22 @@
 -- What ids are backed with, as what is held has it.
-use Rattle.std.proofs.Common.{ℕ, ap, ◌∙◌, subst, refl, Bool, Option, Some, None, Result, Ok, Err, IfOk, OnOk}
+use Rattle.std.proofs.Common.{◌≡◌, ℕ, ◌+◌, ◌≤◌, length, ap, sym, ◌∙◌, subst, refl, Bool, Option, Some, None, Result, Ok, Err, IfOk, OnOk}
+use Rattle.std.specs.Prelude.{IfSome, IsSome}
 use Rattle.std.specs.declared.alloc.AllocError.{AllocError}
-use Rattle.vk_memory.specs.MemoryState.{MemoryState}
+use Rattle.vk_memory.specs.declared.memories.Object.{Object}
+use Rattle.vk_memory.specs.MemoryState.{MemoryState, object_at, bytes_of, type_in}
 use Rattle.vk_model.specs.declared.resource.PoolInfo.{PoolInfo}
 use Rattle.vk_model.specs.declared.resource.Spot.{Spot}
 use Rattle.vk_model.specs.Trace.Objects.{Resource}
 use Rattle.vma_pools.specs.declared.allocations.Asked.{Asked}
 use Rattle.vk_backing.specs.Backed.{Backed, IsBacked, IsWhole}
-use Rattle.vk_backing.specs.Steps.{Asks, MakesPool, OwnAllots, Owns, OwnsOr, PoolAllots, ShareAllots, SharesOr}
+use Rattle.vk_backing.specs.Steps.{Asks, Grows, MakesPool, OwnAllots, Owns, OwnsOr, PoolAllots, ShareAllots, SharesOr}
 use Rattle.vk_backing.specs.Allotted as backing
 use Rattle.vk_resources.specs.Allocating.{allotted}
-use Rattle.vk_resources.specs.Held.{Held}
+use Rattle.vk_resources.specs.declared.resources.Placed.{Placed}
+use Rattle.vk_resources.specs.Held.{Held, IsConsistent, IsInside, placed}
 use Rattle.vk_resources.specs.Inner.Steps.{FoundOr, MadeOr, PoolMade}
+use Rattle.vk_resources.proofs.Placing.{inside_of, grown_object}
+use Rattle.vk_resources.proofs.CachedBytes.{caching_typed}
 
 module _ (old : Held) (backed' : Backed) (memory' : MemoryState) where
   abbrev pub backed_with : Held
@@ -54,3 +59,19 @@ module _ (old : Held) (backed' : Backed) where
       → OnOk r (PoolMade old (record old { backed = backed' }) id info)
   pooled id info (Ok o) is stays makes whole allots = record { makes = makes; backed = stays old.memory is; memory = refl; resources = refl; shapes = refl; cache = refl; whole = whole; allots = allots old.memory is }
   pooled id info (Err e) is stays makes whole allots = tt
+
+-- ---- memory objects that grow
+
+module _ (s : Held) (consistent : IsConsistent s) (backed' : Backed) (memory' : MemoryState) (grows : Grows s.memory memory') (is : IsBacked backed' memory') where
+  pub grown_consistent : IsConsistent (backed_with s backed' memory')
+  grown_consistent = (
+    record { inside = λ b. inside (placed s b) (consistent.0.inside b); apart = consistent.0.apart; backed_is = is },
+    caching_typed s.memory memory' s.resources s.cache (λ b p here. ap type_in (grown_object s.memory memory' grows p.object (inside_of s.memory s.backed s.resources consistent.0 b p here).live)) consistent.1,
+    consistent.2,
+  )
+    where
+      inside : (x : Option Placed) → IfSome x (IsInside s.memory) → IfSome x (IsInside memory')
+      inside None h = h
+      inside (Some p) h =
+          let same : object_at memory' p.object ≡ object_at s.memory p.object = grown_object s.memory memory' grows p.object h.live in
+          record { live = subst (λ (o : Option Object). IsSome o) (sym same) h.live; some = h.some; room = subst (λ (o : Option Object). p.offset + p.size ≤ length (bytes_of o)) (sym same) h.room }

@@ -16,7 +16,7 @@ use Rattle.vk_model.specs.World.Bytes.{Byte, in_buffer, in_image}
 use Rattle.vk_model.specs.World.Effect.{in_atoms}
 use Rattle.vk_transfer.specs.Ran.{AreApart}
 use Rattle.vk_resources.specs.declared.resources.Placed.{Placed}
-use Rattle.vk_resources.specs.Held.{Held, IsInside, IsCaching, IsCachedByte, IsInAtoms, IsConsistent, is_cached_in, placed, placed_in, shape_of, flat, flat_in, host_at, byte_at, IsThere, HasCell}
+use Rattle.vk_resources.specs.Held.{Held, IsInside, IsCaching, IsCachedByte, IsInAtoms, IsWithin, IsConsistent, is_cached_in, is_dirty, placed, placed_in, shape_of, flat, flat_in, host_at, byte_at, IsThere, HasCell}
 use Rattle.vk_resources.specs.Inner.Steps.{MayReach, MayReachTo, cached_at, changed_of, length_to}
 use Rattle.vk_resources.proofs.Placing.{inside_of}
 use Rattle.vk_resources.proofs.Lying.{byte_lies, buffer_lies, where_lies, where_is, where_image, lies_within, byte_stays}
@@ -75,16 +75,24 @@ within_atoms p k low high = (omega (arith, low), omega (arith, high))
 -- ---- one buffer is changed
 
 -- types stay, so what is cached does
+abbrev typed_byte : (memory memory' : MemoryState) (resources : List (ℕ × Placed)) → ((b : ℕ) (p : Placed) → placed_in resources b ≡ Some p → type_of memory' p.object ≡ type_of memory p.object) → (number k : ℕ) → IsCachedByte memory resources number k → IsCachedByte memory' resources number k
+typed_byte memory memory' resources types number k w = record { id = w.id; place = w.place; here = w.here; object = w.object; cached = ap (λ (t : ℕ). t == 2) (types w.id w.place w.here) ∙ w.cached; atom = w.atom }
+
 pub caching_typed : (memory memory' : MemoryState) (resources : List (ℕ × Placed)) (cache : Holdings) → ((b : ℕ) (p : Placed) → placed_in resources b ≡ Some p → type_of memory' p.object ≡ type_of memory p.object) → IsCaching memory resources cache → IsCaching memory' resources cache
 caching_typed memory memory' resources cache types c = record {
   aligned = λ b p here is. c.aligned b p here (ap (λ (t : ℕ). t == 2) (sym (types b p here)) ∙ is);
-  only = λ number k held. let w = c.only number k held in record { id = w.id; place = w.place; here = w.here; object = w.object; cached = ap (λ (t : ℕ). t == 2) (types w.id w.place w.here) ∙ w.cached; atom = w.atom };
+  only = λ number k held. typed_byte memory memory' resources types number k (c.only number k held);
+  dirty = λ number k held. let w = c.dirty number k held in (typed_byte memory memory' resources types number k w.0, w.1);
 }
 
 -- a buffer more
 pub caching_put : (memory : MemoryState) (old new : List (ℕ × Placed)) (cache : Holdings) (id : ℕ) (p : Placed) → placed_in old id ≡ None → placed_in new id ≡ Some p → ((q : ℕ) → (q ≡ id → ⊥) → placed_in new q ≡ placed_in old q)
     → (is_cached_in memory p ≡ true → p.offset % 64 ≡ 0) → IsCaching memory old cache → IsCaching memory new cache
-caching_put memory old new cache id p absent here others begins c = record { aligned = λ b q at is. aligned b q at is (eqb b id) refl; only = λ number k held. only number k (c.only number k held) }
+caching_put memory old new cache id p absent here others begins c = record {
+  aligned = λ b q at is. aligned b q at is (eqb b id) refl;
+  only = λ number k held. (kept number k (c.only number k held)).0;
+  dirty = λ number k held. let w = c.dirty number k held in let v = kept number k w.0 in (v.0, subst (λ (q : Placed). IsWithin q k) v.1 w.1);
+}
   where
     aligned : (b : ℕ) (q : Placed) → placed_in new b ≡ Some q → is_cached_in memory q ≡ true → (t : Bool) → eqb b id ≡ t → q.offset % 64 ≡ 0
     aligned b q at is false e = c.aligned b q (sym (others b (eqb-false b id e)) ∙ at) is
@@ -93,8 +101,8 @@ caching_put memory old new cache id p absent here others begins c = record { ali
         let same : p ≡ q = cc in
         subst (λ (r : Placed). r.offset % 64 ≡ 0) same (begins (subst (λ (r : Placed). is_cached_in memory r ≡ true) (sym same) is))
 
-    only : (number k : ℕ) → IsCachedByte memory old number k → IsCachedByte memory new number k
-    only number k w = record { id = w.id; place = w.place; here = others w.id other ∙ w.here; object = w.object; cached = w.cached; atom = w.atom }
+    kept : (number k : ℕ) (w : IsCachedByte memory old number k) → (v : IsCachedByte memory new number k) × (w.place ≡ v.place)
+    kept number k w = (record { id = w.id; place = w.place; here = others w.id other ∙ w.here; object = w.object; cached = w.cached; atom = w.atom }, refl)
       where
         other : w.id ≡ id → ⊥
         other is = let both : Some w.place ≡ None = sym w.here ∙ ap (λ (i : ℕ). placed_in old i) is ∙ absent in cc
@@ -116,11 +124,22 @@ module _ (s : Held) (consistent : IsConsistent s) (b : ℕ) (p : Placed) (here :
         let now = done.bytes k cell (record { held = refl; region = refl }) in
         sym now.held ∙ ap (λ (c : Cell). c.held 0) (outside k cell out)
 
-    pub changed_caching : IsCaching memory s.resources cache
-    changed_caching = record { aligned = typed.aligned; only = λ number k held. only number k held (eqb number p.object) refl }
+    pub changed_caching : ((k : ℕ) (cell : Cell) → is_dirty ((f k cell).held 0) ≡ true → (is_dirty (cell.held 0) ≡ true) ⊎ IsWithin p k) → IsCaching memory s.resources cache
+    changed_caching makes = record { aligned = typed.aligned; only = λ number k held. only number k held (eqb number p.object) refl; dirty = λ number k held. dirty number k held (eqb number p.object) refl }
       where
         typed : IsCaching memory s.resources s.cache
         typed = caching_typed s.memory memory s.resources s.cache (λ c q at. types q.object) consistent.1
+
+        dirty : (number k : ℕ) → is_dirty (held_at cache number k) ≡ true → (t : Bool) → eqb number p.object ≡ t → (w : IsCachedByte memory s.resources number k) × IsWithin w.place k
+        dirty number k held false e = typed.dirty number k (subst (λ (h : Option caches.Held). is_dirty h ≡ true) (done.others number k (eqb-false number p.object e)) held)
+        dirty number k held true e =
+            let same = eqb-true number p.object e in
+            let cell : Cell = record { region = slice_index (region_of s.memory p.object) k; held = λ a. held_at s.cache p.object k } in
+            let now = done.bytes k cell (record { held = refl; region = refl }) in
+            subst (λ (n : ℕ). (w : IsCachedByte memory s.resources n k) × IsWithin w.place k) (sym same) (elim (makes k cell (ap is_dirty now.held ∙ subst (λ (n : ℕ). is_dirty (held_at cache n k) ≡ true) same held)) [
+              | inl was ↦ typed.dirty p.object k was
+              | inr within ↦ (record { id = b; place = p; here = here; object = refl; cached = ap (λ (t : ℕ). t == 2) (types p.object) ∙ cached; atom = within_atoms p k within.0 within.1 }, within)
+            ])
 
         only : (number k : ℕ) → IsSome (held_at cache number k) → (t : Bool) → eqb number p.object ≡ t → IsCachedByte memory s.resources number k
         only number k held false e = typed.only number k (subst (λ (h : Option caches.Held). IsSome h) (done.others number k (eqb-false number p.object e)) held)
@@ -231,6 +250,19 @@ module _ (p : Placed) (o : ℕ) (bytes : List ℕ) (fits : o + length bytes ≤ 
           | inr le ↦ inr le
         ]
       ]
+
+  -- what it makes dirty is the buffer's
+  pub write_makes : (k : ℕ) (cell : Cell) → is_dirty ((after_host_write true (given (p.offset + o) bytes k) cell).held 0) ≡ true → (is_dirty (cell.held 0) ≡ true) ⊎ IsWithin p k
+  write_makes k cell dirty = elim (cases_lt k (p.offset + o)) [
+    | inl lt ↦ inl (unwritten (inl lt))
+    | inr ge ↦ elim (cases_lt k (p.offset + o + length bytes)) [
+      | inl lt ↦ inr (omega (arith, ge), omega (arith, lt, fits))
+      | inr le ↦ inl (unwritten (inr le))
+    ]
+  ]
+    where
+      unwritten : (k < p.offset + o) ⊎ (p.offset + o + length bytes ≤ k) → is_dirty (cell.held 0) ≡ true
+      unwritten beyond = subst (λ (g : Option ℕ). is_dirty ((after_host_write true g cell).held 0) ≡ true) (given-outside (p.offset + o) bytes k beyond) dirty
 
   pub write_inside : (k : ℕ) (cell : Cell) → k < p.size → after_host_write true (given (p.offset + o) bytes (p.offset + k)) cell ≡ after_host_write true (given o bytes k) cell
   write_inside k cell lt = ap (λ (g : Option ℕ). after_host_write true g cell) (given_moved p.offset o bytes k)

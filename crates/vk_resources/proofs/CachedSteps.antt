@@ -1,5 +1,5 @@
 -- Each call on the host's cache, as a step of what is held.
-use Rattle.std.proofs.Common.{◌≡◌, ℕ, ◌+◌, ◌-◌, ◌/◌, ◌%◌, ◌<◌, ◌≤◌, ◌==◌, List, [], length, slice_index, Bool, true, false, eqb, nat_lt, nat_le, ◌&&◌, refl, ap, sym, ◌∙◌, subst, arith, inl, inr, Option, Some, None, if◌then◌else◌}
+use Rattle.std.proofs.Common.{◌≡◌, ℕ, ◌+◌, ◌-◌, ◌/◌, ◌%◌, ◌<◌, ◌≤◌, ◌==◌, List, [], length, slice_index, Bool, true, false, eqb, nat_lt, nat_le, ◌&&◌, refl, ap, sym, ◌∙◌, subst, arith, ◌⊎◌, inl, inr, Option, Some, None, if◌then◌else◌}
 use Rattle.std.proofs.lemmas.Bool.{and_from, lt-ltb, ltb-true, le-leb, eqb-true, eqb-false}
 use Rattle.std.specs.Prelude.{IsSome, is_some}
 use Rattle.vk_map_cache.specs.Holdings.{Holdings, held_at, Changes, HoldsSame, given, only_where, is_reached, is_in_atom}
@@ -19,12 +19,14 @@ use Rattle.vk_backing.specs.Allotted as backing
 use Rattle.vk_backing.specs.Backed.{Backed, IsBacked, IsWhole}
 use Rattle.vk_backing.specs.Steps.{Releases, ReleaseAllots}
 use Rattle.vk_backing.proofs.Spots.{are_spots}
-use Rattle.vk_resources.specs.Held.{Held, IsInside, IsInAtoms, IsCachedByte, IsConsistent, is_cached_in, placed, placed_in, shape_in, shape_of, host_at, holding_in}
-use Rattle.vk_resources.specs.Inner.Steps.{KeepsPlaces, HasChanged, Forgets, LiesElsewhere, IsEmpty, Ends, cached_at, length_to}
+use Rattle.vk_resources.specs.Held.{Held, IsInside, IsInAtoms, IsWithin, IsCachedByte, IsConsistent, is_cached_in, is_dirty, placed, placed_in, shape_in, shape_of, host_at, holding_in}
+use Rattle.vk_resources.specs.Inner.Steps.{KeepsPlaces, HasChanged, Forgets, LiesElsewhere, IsEmpty, Ends, cached_at, is_of, length_to}
 use Rattle.vk_resources.proofs.Placing.{inside_of, apart_rewritten, still_long, released_object, released_dead, apart_ended}
 use Rattle.vk_model.specs.declared.resource.ImageInfo.{ImageInfo}
 use Rattle.vk_resources.proofs.Lying.{kinds_kept}
-use Rattle.vk_resources.proofs.CachedBytes.{cached_here, here_cached, caching_typed, held_kept, reached_outside, changed_caching, changed_cells, unchanged_cells, write_outside, write_inside, FitsIn, range_inside, range_outside, flush_inside, flush_outside, atom_inside, atom_outside, tested}
+use Rattle.vk_resources.proofs.Keeping.{objects_rest, same_objects}
+use Rattle.vk_resources.proofs.CachedRest.{changed_rest, written_back_settles, forgotten_settles, turned_over_settles, settled_makes, settled_still}
+use Rattle.vk_resources.proofs.CachedBytes.{cached_here, here_cached, caching_typed, held_kept, reached_outside, changed_caching, changed_cells, unchanged_cells, write_outside, write_makes, write_inside, FitsIn, range_inside, range_outside, flush_inside, flush_outside, atom_inside, atom_outside, tested}
 
 -- ---- nothing changes
 
@@ -38,6 +40,7 @@ same_consistent s cache consistent same = (
   record {
     aligned = consistent.1.aligned;
     only = λ number k held. consistent.1.only number k (subst (λ (h : Option caches.Held). IsSome h) (same number k) held);
+    dirty = λ number k held. consistent.1.dirty number k (subst (λ (h : Option caches.Held). is_dirty h ≡ true) (same number k) held);
   },
   consistent.2,
 )
@@ -45,7 +48,7 @@ same_consistent s cache consistent same = (
 -- a change of a buffer that isn't in cached memory
 pub uncached_kept : (s : Held) (b : ℕ) (test : ℕ → Bool) (f : Cell → Cell) → cached_at s b ≡ None → HasChanged s s b (only_where (λ k. is_some (cached_at s b) && test k) f)
 uncached_kept s b test f none =
-    (keeps_same s s.cache, unchanged_cells s b (only_where (λ k. is_some (cached_at s b) && test k) f) (λ k cell. ap (λ (o : Option Placed). if is_some o && test k then f cell else cell) none))
+    (keeps_same s s.cache, unchanged_cells s b (only_where (λ k. is_some (cached_at s b) && test k) f) (λ k cell. ap (λ (o : Option Placed). if is_some o && test k then f cell else cell) none), objects_rest s s (is_of b) (same_objects s s refl))
 
 -- ---- a change of the host's cache alone
 
@@ -62,12 +65,20 @@ module _ (s : Held) (consistent : IsConsistent s) (b : ℕ) (p : Placed) (is : c
   aligned : p.offset % 64 ≡ 0
   aligned = consistent.1.aligned b p here cached
 
+  -- what a change makes dirty is the buffer's
+  abbrev Makes : (ℕ → Cell → Cell) → Type 0
+  Makes f = (k : ℕ) (cell : Cell) → is_dirty ((f k cell).held 0) ≡ true → (is_dirty (cell.held 0) ≡ true) ⊎ IsWithin p k
+
   -- what is so of the cache with memory as it is
   in_cache : shape_of s b ≡ None → (f g : ℕ → Cell → Cell) (cache : Holdings) → Changes f p.object s.cache cache (region_of s.memory p.object) (region_of s.memory p.object) → ((k : ℕ) (cell : Cell) → (IsInAtoms p k → ⊥) → f k cell ≡ cell)
-      → ((k : ℕ) (cell : Cell) → k < p.size → f (p.offset + k) cell ≡ g k cell) → IsConsistent (record s { cache = cache }) × HasChanged s (record s { cache = cache }) b g
-  in_cache flat_is f g cache done outside same = (
-    (consistent.0, changed_caching s consistent b p here cached s.memory cache (λ q. refl) (λ q other. refl) f done outside, consistent.2),
-    (keeps_same s cache, changed_cells s consistent b p here cached s.memory cache (λ q. refl) (λ q other. refl) f done outside flat_is g same),
+      → Makes f → ((k : ℕ) (cell : Cell) → k < p.size → f (p.offset + k) cell ≡ g k cell) → IsConsistent (record s { cache = cache }) × HasChanged s (record s { cache = cache }) b g
+  in_cache flat_is f g cache done outside makes same = (
+    (consistent.0, changed_caching s consistent b p here cached s.memory cache (λ q. refl) (λ q other. refl) f done outside makes, consistent.2),
+    (
+      keeps_same s cache,
+      changed_cells s consistent b p here cached s.memory cache (λ q. refl) (λ q other. refl) f done outside flat_is g same,
+      objects_rest s (record s { cache = cache }) (is_of b) (same_objects s (record s { cache = cache }) refl),
+    ),
   )
 
   -- memory with other bytes in its memory object
@@ -97,11 +108,15 @@ module _ (s : Held) (consistent : IsConsistent s) (b : ℕ) (p : Placed) (is : c
 
   -- and with other bytes in its memory object
   in_both : shape_of s b ≡ None → (f g : ℕ → Cell → Cell) (cache : Holdings) (after : List ℕ) → Changes f p.object s.cache cache (region_of s.memory p.object) after → ((k : ℕ) (cell : Cell) → (IsInAtoms p k → ⊥) → f k cell ≡ cell)
-      → ((k : ℕ) (cell : Cell) → k < p.size → f (p.offset + k) cell ≡ g k cell)
+      → Makes f → ((k : ℕ) (cell : Cell) → is_dirty (cell.held 0) ≡ false → (f k cell).region ≡ cell.region) → ((k : ℕ) (cell : Cell) → k < p.size → f (p.offset + k) cell ≡ g k cell)
       → IsConsistent (record s { memory = with_region s.memory p.object after; cache = cache }) × HasChanged s (record s { memory = with_region s.memory p.object after; cache = cache }) b g
-  in_both flat_is f g cache after done outside same = (
-    (apart_rewritten s.memory p.object after inside.live done.size s.backed s.resources consistent.0, changed_caching s consistent b p here cached memory cache (types cache after done.size) elsewhere f now outside, consistent.2),
-    (rewritten_keeps cache after done.size, changed_cells s consistent b p here cached memory cache (types cache after done.size) elsewhere f now outside flat_is g same),
+  in_both flat_is f g cache after done outside makes still same = (
+    (apart_rewritten s.memory p.object after inside.live done.size s.backed s.resources consistent.0, changed_caching s consistent b p here cached memory cache (types cache after done.size) elsewhere f now outside makes, consistent.2),
+    (
+      rewritten_keeps cache after done.size,
+      changed_cells s consistent b p here cached memory cache (types cache after done.size) elsewhere f now outside flat_is g same,
+      changed_rest s consistent b p here cached memory cache (types cache after done.size) elsewhere f now outside flat_is still,
+    ),
   )
     where
       memory : MemoryState
@@ -119,7 +134,7 @@ module _ (s : Held) (consistent : IsConsistent s) (b : ℕ) (p : Placed) (is : c
       → IsConsistent (record s { cache = cache }) × HasChanged s (record s { cache = cache }) b (λ k. after_host_write true (given o bytes k))
   wrote flat_is o bytes region cache fits at done =
       in_cache flat_is (λ k. after_host_write true (given (p.offset + o) bytes k)) (λ k. after_host_write true (given o bytes k)) cache
-      (subst (λ (r : List ℕ). Changes (λ k. after_host_write true (given (p.offset + o) bytes k)) p.object s.cache cache r r) at done) (write_outside p o bytes fits) (write_inside p o bytes fits)
+      (subst (λ (r : List ℕ). Changes (λ k. after_host_write true (given (p.offset + o) bytes k)) p.object s.cache cache r r) at done) (write_outside p o bytes fits) (write_makes p o bytes fits) (write_inside p o bytes fits)
 
   module _ (flat_is : shape_of s b ≡ None) (o : ℕ) (n : Length) (fits : FitsIn p.size o n) where
     pub flushed : (region after : List ℕ) (cache : Holdings) → region ≡ region_of s.memory p.object → Changes (only_where (is_reached (length region) (p.offset + o) (length_to p.size o n)) (written_back 0)) p.object s.cache cache region after
@@ -129,13 +144,14 @@ module _ (s : Held) (consistent : IsConsistent s) (b : ℕ) (p : Placed) (is : c
         in_both flat_is (only_where (is_reached (length (region_of s.memory p.object)) (p.offset + o) (length_to p.size o n)) (written_back 0)) (only_where (λ k. is_some (cached_at s b) && in_atoms o n k) (written_back 0)) cache after
         (subst (λ (r : List ℕ). Changes (only_where (is_reached (length r) (p.offset + o) (length_to p.size o n)) (written_back 0)) p.object s.cache cache r after) at done)
         (λ k cell out. tested (written_back 0) _ false cell (flush_outside s b p here cached aligned o n fits (length (region_of s.memory p.object)) inside.room k out))
+        (settled_makes (is_reached (length (region_of s.memory p.object)) (p.offset + o) (length_to p.size o n)) (written_back 0) written_back_settles p) (settled_still (is_reached (length (region_of s.memory p.object)) (p.offset + o) (length_to p.size o n)) (written_back 0) written_back_settles)
         (λ k cell lt. tested (written_back 0) _ _ cell (flush_inside s b p here cached aligned o n fits (length (region_of s.memory p.object)) inside.room k lt))
 
     pub invalidated : (cache : Holdings) → ((region : List ℕ) → Changes (only_where (in_atoms (p.offset + o) (length_of.Bytes (length_to p.size o n))) (forgotten 0)) p.object s.cache cache region region)
         → IsConsistent (record s { cache = cache }) × HasChanged s (record s { cache = cache }) b (only_where (λ k. is_some (cached_at s b) && in_atoms o n k) (forgotten 0))
     invalidated cache done =
         in_cache flat_is (only_where (in_atoms (p.offset + o) (length_of.Bytes (length_to p.size o n))) (forgotten 0)) (only_where (λ k. is_some (cached_at s b) && in_atoms o n k) (forgotten 0)) cache (done (region_of s.memory p.object))
-        (λ k cell out. tested (forgotten 0) _ false cell (range_outside s b p here cached aligned o n fits k out)) (λ k cell lt. tested (forgotten 0) _ _ cell (range_inside s b p here cached aligned o n fits k lt))
+        (λ k cell out. tested (forgotten 0) _ false cell (range_outside s b p here cached aligned o n fits k out)) (settled_makes (in_atoms (p.offset + o) (length_of.Bytes (length_to p.size o n))) (forgotten 0) forgotten_settles p) (λ k cell lt. tested (forgotten 0) _ _ cell (range_inside s b p here cached aligned o n fits k lt))
 
   pub turned_atom : shape_of s b ≡ None → (j : ℕ) (region after : List ℕ) (cache : Holdings) → j ≤ (p.size - 1) / 64 → region ≡ region_of s.memory p.object → Changes (only_where (is_in_atom (length region) (p.offset / 64 + j)) turned_over) p.object s.cache cache region after
       → IsConsistent (record s { memory = with_region s.memory p.object after; cache = cache })
@@ -144,6 +160,7 @@ module _ (s : Held) (consistent : IsConsistent s) (b : ℕ) (p : Placed) (is : c
       in_both flat_is (only_where (is_in_atom (length (region_of s.memory p.object)) (p.offset / 64 + j)) turned_over) (only_where (λ k. is_some (cached_at s b) && k / 64 == j) turned_over) cache after
       (subst (λ (r : List ℕ). Changes (only_where (is_in_atom (length r) (p.offset / 64 + j)) turned_over) p.object s.cache cache r after) at done)
       (λ k cell out. tested turned_over _ false cell (atom_outside s b p here cached aligned j (length (region_of s.memory p.object)) below inside.some inside.room k out))
+      (settled_makes (is_in_atom (length (region_of s.memory p.object)) (p.offset / 64 + j)) turned_over turned_over_settles p) (settled_still (is_in_atom (length (region_of s.memory p.object)) (p.offset / 64 + j)) turned_over turned_over_settles)
       (λ k cell lt. tested turned_over _ _ cell (atom_inside s b p here cached aligned j (length (region_of s.memory p.object)) below inside.some inside.room k lt))
 
   -- ---- what is forgotten
@@ -155,7 +172,7 @@ module _ (s : Held) (consistent : IsConsistent s) (b : ℕ) (p : Placed) (is : c
         tested (forgotten 0) _ false cell (subst (λ (o : ℕ). in_atoms o (length_of.Bytes p.size) k ≡ false) start (reached_outside p aligned 0 p.size (omega arith) k out))
 
     pub forgot_consistent : IsConsistent (record s { cache = cache })
-    forgot_consistent = (consistent.0, changed_caching s consistent b p here cached s.memory cache (λ q. refl) (λ q other. refl) _ (done (region_of s.memory p.object)) out_of_it, consistent.2)
+    forgot_consistent = (consistent.0, changed_caching s consistent b p here cached s.memory cache (λ q. refl) (λ q other. refl) _ (done (region_of s.memory p.object)) out_of_it (settled_makes (in_atoms p.offset (length_of.Bytes p.size)) (forgotten 0) forgotten_settles p), consistent.2)
 
     gone_at : (k : ℕ) → IsInAtoms p k → held_at cache p.object k ≡ None
     gone_at k at =
@@ -258,18 +275,29 @@ module _ (s : Held) (id : ℕ) (cache : Holdings) (consistent : IsConsistent s) 
               let ne = other b p at in
               let was = sym (places b ne) ∙ at in
               consistent.1.aligned b p was (ap (λ (t : ℕ). t == 2) (sym (type_kept b p ne was)) ∙ cached);
-          only = λ number k held. only number k held (mid.1.only number k (subst (λ (h : Option caches.Held). IsSome h) (same number k) held));
+          only = λ number k held. (stays_cached number k held (mid.1.only number k (subst (λ (h : Option caches.Held). IsSome h) (same number k) held))).0;
+          dirty = λ number k held.
+              let w = mid.1.dirty number k (subst (λ (h : Option caches.Held). is_dirty h ≡ true) (same number k) held) in
+              stays_within number k w.0 w.1 (stays_cached number k (dirty_some (held_at final number k) held) w.0);
         },
         record { each = λ i m p is at. let ne = other i p at in consistent.2.each i m p (sym (shapes i ne) ∙ is) (sym (places i ne) ∙ at) },
       )
         where
-          only : (number k : ℕ) → IsSome (held_at final number k) → IsCachedByte s.memory s.resources number k → IsCachedByte ended.memory resources' number k
-          only number k held w = go (eqb w.id id) refl
+          dirty_some : (h : Option caches.Held) → is_dirty h ≡ true → IsSome h
+          dirty_some None e = absurd cc
+          dirty_some (Some h) e = refl
+
+          stays_within : (number k : ℕ) (w : IsCachedByte s.memory s.resources number k) → IsWithin w.place k → (v : IsCachedByte ended.memory resources' number k) × (w.place ≡ v.place) → (v : IsCachedByte ended.memory resources' number k) × IsWithin v.place k
+          stays_within number k w within left = (left.0, subst (λ (q : Placed). IsWithin q k) left.1 within)
+
+          -- a byte that is held is of a resource that stays
+          stays_cached : (number k : ℕ) → IsSome (held_at final number k) → (w : IsCachedByte s.memory s.resources number k) → (v : IsCachedByte ended.memory resources' number k) × (w.place ≡ v.place)
+          stays_cached number k held w = go (eqb w.id id) refl
             where
-              go : (t : Bool) → eqb w.id id ≡ t → IsCachedByte ended.memory resources' number k
+              go : (t : Bool) → eqb w.id id ≡ t → (v : IsCachedByte ended.memory resources' number k) × (w.place ≡ v.place)
               go false e =
                   let ne = eqb-false w.id id e in
-                  record { id = w.id; place = w.place; here = places w.id ne ∙ w.here; object = w.object; cached = ap (λ (t : ℕ). t == 2) (type_kept w.id w.place ne w.here) ∙ w.cached; atom = w.atom }
+                  (record { id = w.id; place = w.place; here = places w.id ne ∙ w.here; object = w.object; cached = ap (λ (t : ℕ). t == 2) (type_kept w.id w.place ne w.here) ∙ w.cached; atom = w.atom }, refl)
               go true e =
                   let one = eqb-true w.id id e in
                   let there = here_cached s id w.place (ap (λ (i : ℕ). placed s i) (sym one) ∙ w.here) w.cached in

@@ -17,18 +17,19 @@ use Rattle.vk_transfer.specs.declared.filling.Fill.{Fill}
 use Rattle.vk_transfer.specs.declared.updating.Update.{Update}
 use Rattle.vk_transfer.specs.Fills.{fill_piece, piece_size}
 use Rattle.vk_transfer.specs.Updates.{update_piece, update_piece_size}
-use Rattle.vk_transfer.specs.Ran.{given}
+use Rattle.vk_transfer.specs.Ran.{given, HaveRun}
 use Rattle.vk_transfer.proofs.Finding.{word_at}
 use Rattle.vk_transfer.proofs.FillPieces.{piece_writes}
 use Rattle.vk_transfer.proofs.UpdatePieces.{update_piece_writes}
 use Rattle.vk_transfer.proofs.Ranges.{writes}
 use Rattle.vk_resources.specs.declared.resources.Placed.{Placed}
 use Rattle.vk_resources.specs.Held.{Held, IsConsistent, IsInside, placed, shape_of, flat, byte_at}
-use Rattle.vk_resources.specs.Inner.Steps.{HasRun}
+use Rattle.vk_resources.specs.Inner.Steps.{KeepsPlaces, is_of, HasRun}
 use Rattle.vk_resources.proofs.Placing.{inside_of}
+use Rattle.vk_resources.proofs.Keeping.{ran_rest}
 use Rattle.vk_resources.proofs.CachedBytes.{byte_of as held_byte}
 use Rattle.vk_resources.proofs.Matching.{flat_parts}
-use Rattle.vk_resources.proofs.Splicing.{spliced_apart, spliced_caching, spliced_keeps, spliced_ran}
+use Rattle.vk_resources.proofs.Splicing.{spliced_apart, spliced_caching, spliced_keeps, spliced_rest, spliced_ran}
 
 -- the memory of what is held, with other bytes in an object
 abbrev pub with_bytes : Held → ℕ → List ℕ → Held
@@ -49,7 +50,12 @@ module _ (s : Held) (consistent : IsConsistent s) where
     put_at : (at : ℕ) (bytes : List ℕ) (offset lo : ℕ) (source : ℕ → Source) → at + length bytes ≤ p.size → at ≡ offset + lo → ((j : ℕ) → lo ≤ j → j < lo + length bytes → slice_index bytes (j - lo) ≡ given (source j) (byte_at s))
         → Runs p.object (splice (region_of s.memory p.object) (p.offset + at) bytes) (writes b offset source lo (length bytes))
     put_at at bytes offset lo source fits place values =
-        ((spliced_apart s consistent.0 consistent.2 b p here flat_is at bytes fits, spliced_caching s consistent.0 consistent.2 b p here flat_is at bytes fits consistent.1, consistent.2), (spliced_keeps s consistent.0 consistent.2 b p here flat_is at bytes fits, spliced_ran s consistent.0 consistent.2 b p here flat_is at bytes fits offset lo source place values, refl))
+        let object : Held = with_bytes s p.object (splice (region_of s.memory p.object) (p.offset + at) bytes) in
+        let keeps : KeepsPlaces s object = spliced_keeps s consistent.0 consistent.2 b p here flat_is at bytes fits in
+        let ran : HaveRun (writes b offset source lo (length bytes)) (byte_at s) (byte_at object) = spliced_ran s consistent.0 consistent.2 b p here flat_is at bytes fits offset lo source place values in (
+          (spliced_apart s consistent.0 consistent.2 b p here flat_is at bytes fits, spliced_caching s consistent.0 consistent.2 b p here flat_is at bytes fits consistent.1, consistent.2),
+          (keeps, ran, refl, ran_rest s object (is_of b) (writes b offset source lo (length bytes)) keeps (spliced_rest s consistent.0 consistent.2 b p here flat_is at bytes fits) ran),
+        )
 
     put : (offset lo n : ℕ) (source : ℕ → Source) (bytes new : List ℕ) → length bytes ≡ n → offset + lo + n ≤ p.size → new ≡ splice (region_of s.memory p.object) (p.offset + offset + lo) bytes
         → ((j : ℕ) → lo ≤ j → j < lo + n → slice_index bytes (j - lo) ≡ given (source j) (byte_at s)) → Runs p.object new (writes b offset source lo n)

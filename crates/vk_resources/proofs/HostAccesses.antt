@@ -1,6 +1,6 @@
 -- What a host access, a flush or an invalidation does to what is held, and what it is answered.
 use Rattle.std.proofs.Common.{◌≡◌, ℕ, ◌+◌, ◌-◌, ◌/◌, ◌<◌, ◌≤◌, ◌==◌, List, [], ◌∷◌, map, length, Bool, true, false, ◌&&◌, ◌||◌, nat_le, refl, ap, sym, ◌∙◌, subst, arith, slice_get, slice_index, Option, Some, None, if◌then◌else◌}
-use Rattle.std.specs.Prelude.{is_some, option_and_then}
+use Rattle.std.specs.Prelude.{not, is_some, option_and_then}
 use Rattle.std.specs.List.{range_with_len}
 use Rattle.std.proofs.lemmas.List.{ext_get_or}
 use Rattle.std.proofs.lemmas.List.FromFn.{get_or-map-range_with_len, length-map-range_with_len}
@@ -15,25 +15,30 @@ use Rattle.vk_model.specs.Basics.{below}
 use Rattle.vk_model.specs.Trace.Point.{Past}
 use Rattle.vk_model.specs.Trace.Order.{host}
 use Rattle.vk_model.specs.Trace.Objects.{live, buffer_in, is_cached}
-use Rattle.vk_model.specs.World.Bytes.{Byte, in_buffer, in_image}
+use Rattle.vk_model.specs.World.Bytes.{Byte, in_buffer, in_image, resource_at}
+use Rattle.vk_model.specs.declared.resource.ImageInfo.{ImageInfo}
 use Rattle.vk_model.specs.World.Effect as effect
 use Rattle.vk_model.specs.World.Effect.{written, reaches}
 use Rattle.vk_model.specs.Run.Caches as caches
 use Rattle.vk_model.specs.Run.Caches.{Cell, value_through, written_back, forgotten}
-use Rattle.vk_model.specs.Run.CachedRuns.{in_atoms, turned_over, after_host_write}
+use Rattle.vk_model.specs.Run.CachedRuns.{in_atoms, turned_over, after_host, after_host_write}
 use Rattle.vk_model.specs.Run.Runs.{touched_by, atom_count}
 use Rattle.vk_resources.specs.declared.applied.Applied.TheVariants as applied
 use Rattle.vk_resources.specs.declared.resources.Placed.{Placed}
-use Rattle.vk_resources.specs.Held.{Held, placed, shape_of, flat, is_cached_in, IsThere, HasCell, seen_at, host_at}
+use Rattle.vk_resources.specs.Held.{Held, placed, placed_in, shape_of, shape_in, flat, is_cached_in, is_dirty, IsThere, HasCell, byte_at, seen_at, host_at}
+use Rattle.vk_resources.specs.Rest.{KeepsRest, is_dirty_at, is_changed_by, is_given_back}
 use Rattle.vk_resources.specs.Matches.{MatchesLive}
 use Rattle.vk_resources.specs.Fits.{FitsEntry, FitsRange, FitsLength}
 use Rattle.vk_resources.specs.Done.{LeavesCells, DoneBy, TurnsOver}
-use Rattle.vk_resources.specs.Inner.Steps.{HasChanged, MayReach, MayReachTo, HasAtom, cached_at, changed_of}
+use Rattle.vk_resources.specs.Inner.Steps.{HasChanged, MayReach, MayReachTo, HasAtom, cached_at, is_of, changed_of}
 use Rattle.vk_resources.proofs.Matching.{placed_of_live, flat_parts, flat_from, matches_same, keeps_matches}
 use Rattle.vk_resources.proofs.Living.{live_same}
 use Rattle.vk_resources.proofs.Fitting.{same_size}
 use Rattle.vk_resources.proofs.Binding.{same_cached}
+use Rattle.vk_resources.proofs.Lying.{there_stays}
+use Rattle.vk_resources.proofs.Keeping.{narrowed}
 use Rattle.vk_resources.proofs.CachedBytes.{cached_here, host_of, byte_of}
+use Rattle.vk_resources.proofs.CachedRest.{written_back_settles, turned_over_settles}
 use Rattle.vk_resources.proofs.Applying.{none_new}
 
 -- ---- the buffer that an entry accesses
@@ -205,6 +210,70 @@ invalidate_done old new y b o n is changed e past m fit =
       ),
       λ b o n h. absurd cc,
     )
+
+-- ---- what stays of memory
+
+-- what a turned atom leaves
+pub turned_rest : (old new : Held) (x : Entry) (b k : ℕ) (change : ℕ → Cell → Cell) → HasChanged old new b change → TurnsOver x k old new → KeepsRest old new (is_given_back old x k)
+turned_rest old new x b k change changed turns = narrowed old new (is_of b) (is_given_back old x k) changed.0 changed.2 (λ c there among none. same c there none)
+  where
+    unturned : (c : Byte) (cell : Cell) → cell.held 0 ≡ host_at old c → (t : Bool) → (t && is_dirty_at old c) ≡ false → (if t then turned_over cell else cell).region ≡ cell.region
+    unturned c cell held false e = refl
+    unturned c cell held true e = turned_over_settles.still cell (ap is_dirty held ∙ e)
+
+    same : (c : Byte) → IsThere old c → is_given_back old x k c ≡ false → byte_at new c ≡ byte_at old c
+    same c there none =
+        let cell : Cell = record { region = byte_at old c; held = λ a. host_at old c } in
+        sym (turns c cell there (record { held = refl; region = refl })).region ∙ unturned c cell refl (in_atoms (touched_by x) (k ∷ []) c) none
+
+module _ (old new : Held) (b : ℕ) (change : ℕ → Cell → Cell) (changed : HasChanged old new b change) (past : Past) (x : Entry) (leaves : LeavesCells past x old new) where
+  -- an entry after which a byte of memory is another only where it is changed
+  left_rest : ((c : Byte) (cell : Cell) → cell.held 0 ≡ host_at old c → is_changed_by old past x c ≡ false → (after_host past [] x c cell).region ≡ cell.region) → KeepsRest old new (is_changed_by old past x)
+  left_rest unchanged = narrowed old new (is_of b) (is_changed_by old past x) changed.0 changed.2 (λ c there among none. same c there none)
+    where
+      same : (c : Byte) → IsThere old c → is_changed_by old past x c ≡ false → byte_at new c ≡ byte_at old c
+      same c there none =
+          let cell : Cell = record { region = byte_at old c; held = λ a. host_at old c } in
+          let place = ap (λ (l : List (ℕ × Placed)). placed_in l (resource_at c)) changed.0.resources in
+          let shape = ap (λ (l : List (ℕ × ImageInfo)). shape_in l (resource_at c)) changed.0.shapes in
+          sym (leaves c cell there (there_stays old new c place shape there) (record { held = refl; region = refl })).region ∙ unchanged c cell refl none
+
+pub write_rest : (old new : Held) (y : Entry) (b o : ℕ) (bytes : List ℕ) → y ≡ entry.Write b o bytes → HasChanged old new b (λ k. after_host_write (is_some (cached_at old b)) (given o bytes k)) → (past : Past) → MatchesLive past old → FitsEntry past y → KeepsRest old new (is_changed_by old past y)
+write_rest old new y b o bytes is wrote past m fit =
+    let x : Entry = entry.Write b o bytes in
+    let fits : FitsEntry past x = subst (λ (z : Entry). FitsEntry past z) is fit in
+    subst (λ (z : Entry). KeepsRest old new (is_changed_by old past z)) (sym is)
+    (left_rest old new b (λ k. after_host_write (is_some (cached_at old b)) (given o bytes k)) wrote past x (write_done old new x b o bytes refl wrote 0 past m fits).0.1
+    (λ c cell held none. unwritten cell (is_cached past b) (written b o bytes c) none))
+  where
+    unwritten : (cell : Cell) (t : Bool) (v : Option ℕ) → (not t && is_some v) ≡ false → (after_host_write t v cell).region ≡ cell.region
+    unwritten cell t None e = refl
+    unwritten cell true (Some v) e = refl
+    unwritten cell false (Some v) e = absurd cc
+
+pub flush_rest : (old new : Held) (y : Entry) (b o : ℕ) (n : Length) → y ≡ entry.Flush b o n → HasChanged old new b (only_where (λ k. is_some (cached_at old b) && effect.in_atoms o n k) (written_back 0)) → (past : Past) → MatchesLive past old → FitsEntry past y → KeepsRest old new (is_changed_by old past y)
+flush_rest old new y b o n is changed past m fit =
+    let x : Entry = entry.Flush b o n in
+    let fits : FitsEntry past x = subst (λ (z : Entry). FitsEntry past z) is fit in
+    subst (λ (z : Entry). KeepsRest old new (is_changed_by old past z)) (sym is)
+    (left_rest old new b (only_where (λ k. is_some (cached_at old b) && effect.in_atoms o n k) (written_back 0)) changed past x (flush_done old new x b o n refl changed 0 past m fits).0.1
+    (λ c cell held none. unflushed c cell held (is_cached past b && reaches b o n c) none))
+  where
+    unflushed : (c : Byte) (cell : Cell) → cell.held 0 ≡ host_at old c → (t : Bool) → (t && is_dirty_at old c) ≡ false → (if t then written_back 0 cell else cell).region ≡ cell.region
+    unflushed c cell held false e = refl
+    unflushed c cell held true e = written_back_settles.still cell (ap is_dirty held ∙ e)
+
+pub invalidate_rest : (old new : Held) (y : Entry) (b o : ℕ) (n : Length) → y ≡ entry.Invalidate b o n → HasChanged old new b (only_where (λ k. is_some (cached_at old b) && effect.in_atoms o n k) (forgotten 0)) → (past : Past) → MatchesLive past old → FitsEntry past y → KeepsRest old new (is_changed_by old past y)
+invalidate_rest old new y b o n is changed past m fit =
+    let x : Entry = entry.Invalidate b o n in
+    let fits : FitsEntry past x = subst (λ (z : Entry). FitsEntry past z) is fit in
+    subst (λ (z : Entry). KeepsRest old new (is_changed_by old past z)) (sym is)
+    (left_rest old new b (only_where (λ k. is_some (cached_at old b) && effect.in_atoms o n k) (forgotten 0)) changed past x (invalidate_done old new x b o n refl changed 0 past m fits).0.1
+    (λ c cell held none. unforgotten cell (is_cached past b && reaches b o n c)))
+  where
+    unforgotten : (cell : Cell) (t : Bool) → (if t then forgotten 0 cell else cell).region ≡ cell.region
+    unforgotten cell true = refl
+    unforgotten cell false = refl
 
 -- ---- a read
 

@@ -35,6 +35,7 @@ use Rattle.vk_resources.specs.Held.{Held, IsConsistent, shape_of, flat, byte_at}
 use Rattle.vk_resources.specs.Matches.{MatchesLive}
 use Rattle.vk_resources.specs.Fits.{FitsClear, FitsRegions, FitsImages, FitsCommand, NamesLive, KeepsApart}
 use Rattle.vk_resources.specs.Done.{PieceReady}
+use Rattle.vk_resources.specs.Rest.{KeepsRest, is_written}
 use Rattle.vk_resources.specs.Inner.Images.{HasPicture, ClearReady, RegionsReady, ImageRowReady, HasRunPiece}
 use Rattle.vk_resources.specs.Inner.Steps.{HasRun}
 use Rattle.vk_resources.specs.Inner.Works.{AreCopied, regions_count}
@@ -164,12 +165,14 @@ module _ (s : Held) (y : Cmd) (k : ℕ) (ready : PieceReady s y k) where
   piece_made new i has writes of_past run =
       let ran = run has.image has.is.shaped in
       record {
-        ran = λ past ms m fits at.
-            let same : slice_get (writes has.image) k ≡ Some ms = ap (λ (ps : List (List ByteWrite)). slice_get ps k) (sym (of_past past (made_image past s m i has.image has.is.shaped))) ∙ at in
-            subst (λ (xs : List ByteWrite). HaveRun xs (byte_at s) (byte_at new)) (piece_named (writes has.image) k ms same) ran.1;
+        ran = λ past ms m fits at. subst (λ (xs : List ByteWrite). HaveRun xs (byte_at s) (byte_at new)) (same past ms m at) ran.1;
         keeps = ran.0;
         cache = ran.2;
+        rest = λ past ms m fits at. subst (λ (xs : List ByteWrite). KeepsRest s new (is_written xs)) (same past ms m at) ran.3;
       }
+    where
+      same : (past : Past) (ms : List ByteWrite) → MatchesLive past s → slice_get (pieces past y) k ≡ Some ms → piece_in (writes has.image) k ≡ ms
+      same past ms m at = piece_named (writes has.image) k ms (ap (λ (ps : List (List ByteWrite)). slice_get ps k) (sym (of_past past (made_image past s m i has.image has.is.shaped))) ∙ at)
 
   module _ (i : ℕ) (l : Layout) (color : List ℕ) (rs ranges : List SubresourceRange) (is : y ≡ cmd.Clear i l color rs) (same : ranges ≡ rs) where
     cleared : HasPicture s i

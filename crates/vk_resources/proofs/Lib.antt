@@ -1,6 +1,8 @@
 mod Placing
 pub mod Lying
+pub mod Keeping
 pub mod CachedBytes
+mod CachedRest
 mod Splicing
 mod CachedSteps
 mod Commands

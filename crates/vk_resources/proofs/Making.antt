@@ -1,5 +1,5 @@
 -- What an entry that makes a buffer or an image asks of the resources, and does to them.
-use Rattle.std.proofs.Common.{◌≡◌, ℕ, ◌<◌, Bool, true, false, not, ◌&&◌, ◌||◌, ◌==◌, refl, sym, subst, arith, Option, Some}
+use Rattle.std.proofs.Common.{◌≡◌, ℕ, ◌<◌, Bool, true, false, not, ◌&&◌, ◌||◌, ◌==◌, refl, ap, sym, ◌∙◌, subst, arith, Option, Some}
 use Rattle.std.proofs.lemmas.Bool.{or_parts, eqb-true, eqb-false}
 use Rattle.vk_model.specs.declared.entry.Entry.{Entry}
 use Rattle.vk_model.specs.declared.entry.Entry.TheVariants as entry
@@ -13,6 +13,7 @@ use Rattle.vk_model.specs.Trace.Image.{image_size}
 use Rattle.vk_model.specs.Trace.Objects.{Resource, of_image}
 use Rattle.vk_model.specs.Trace.Point.{Past}
 use Rattle.vk_model.specs.Memory.PlaceLaws.{TexelByte, TexelsInside}
+use Rattle.vk_memory.specs.MemoryState.{MemoryState, object_at, fresh}
 use Rattle.vma_pools.specs.declared.allocations.Asked.{Asked}
 use Rattle.vk_image_tiles.proofs.LevelBounds.{counts}
 use Rattle.vk_image_transfer.specs.Held.{ImageOf}
@@ -24,7 +25,9 @@ use Rattle.vk_resources.specs.Held.{Held, IsShaped, IsConsistent}
 use Rattle.vk_resources.specs.Matches.{MatchesLive}
 use Rattle.vk_resources.specs.Fits.{FitsEntry, FitsPlace}
 use Rattle.vk_resources.specs.Done.{DoneBy}
-use Rattle.vk_resources.specs.Inner.Steps.{ResourceMade, BindReady, Binds, SharedMade}
+use Rattle.vk_resources.specs.Inner.Steps.{KeepsObjects, Makes, MemoryMade, ResourceMade, BindReady, Binds, SharedMade}
+use Rattle.vk_resources.proofs.Placing.{kept_object, grown_object}
+use Rattle.vk_resources.proofs.Keeping.{same_objects}
 use Rattle.vk_resources.proofs.Applying.{IsCreatingEntry, resource_done, bound_done}
 use Rattle.vk_resources.proofs.Ending.{CreationFits, binds_ready, image_good}
 use Rattle.vk_model.proofs.World.BytePlaces.{texel_some}
@@ -85,3 +88,23 @@ binds_as s new i k o n shape info size same binds =
 pub shared_as : (a : Applied) (s new : Held) (i pool n size : ℕ) (asked : Asked) (upper : Bool) (shape info : ImageInfo) → n ≡ size → shape ≡ info → SharedMade a s new i pool n asked upper (Some shape) → SharedMade a s new i pool size asked upper (Some info)
 shared_as a s new i pool n size asked upper shape info same_size same made =
     subst (λ (m : ImageInfo). SharedMade a s new i pool size asked upper (Some m)) same (subst (λ (z : ℕ). SharedMade a s new i pool z asked upper (Some shape)) same_size made)
+
+-- ---- memory objects that stay
+
+makes_keep : (old new : Held) (i t size : ℕ) → Makes old new i t size → KeepsObjects old new
+makes_keep old new i t size makes number was is = ap (λ (m : MemoryState). object_at m number) makes.memory ∙ kept_object old.memory (fresh t size) number was
+
+pub memory_keeps : (a : Applied) (old new : Held) (i t size : ℕ) → MemoryMade a old new i t size → KeepsObjects old new
+memory_keeps applied.Done old new i t size made = makes_keep old new i t size made.0
+memory_keeps (applied.Bytes bytes) old new i t size made = absurd made
+memory_keeps applied.NoRoom old new i t size made = same_objects old new (ap (λ (h : Held). h.memory) made.0)
+
+pub resource_keeps : (a : Applied) (old new : Held) (i t size asked : ℕ) (shape : Option ImageInfo) → ResourceMade a old new i t size asked shape → KeepsObjects old new
+resource_keeps applied.Done old new i t size asked shape made = makes_keep old new i t asked made.0
+resource_keeps (applied.Bytes bytes) old new i t size asked shape made = absurd made
+resource_keeps applied.NoRoom old new i t size asked shape made = same_objects old new (ap (λ (h : Held). h.memory) made.0)
+
+pub shared_keeps : (a : Applied) (old new : Held) (i pool size : ℕ) (asked : Asked) (upper : Bool) (shape : Option ImageInfo) → SharedMade a old new i pool size asked upper shape → KeepsObjects old new
+shared_keeps applied.Done old new i pool size asked upper shape made = λ number was is. grown_object old.memory new.memory made.1.grows number was
+shared_keeps (applied.Bytes bytes) old new i pool size asked upper shape made = absurd made
+shared_keeps applied.NoRoom old new i pool size asked upper shape made = same_objects old new (ap (λ (h : Held). h.memory) made.0)

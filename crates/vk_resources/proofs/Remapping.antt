@@ -1,5 +1,5 @@
 -- What is mapped with a resource is mapped, or unmapped.
-use Rattle.std.proofs.Common.{◌≡◌, ℕ, ◌+◌, ◌≤◌, [], ◌∷◌, List, length, Bool, Option, Some, None, refl, sym, ap, subst, ◌∙◌}
+use Rattle.std.proofs.Common.{◌≡◌, ℕ, ◌+◌, ◌≤◌, [], ◌∷◌, List, length, slice_index, Bool, Option, Some, None, refl, sym, ap, subst, ◌∙◌}
 use Rattle.std.specs.Prelude.{IfSome, IsSome, is_some, option_map}
 use Rattle.vk_memory.specs.MemoryState.{MemoryState, IsLive, region_of, type_of}
 use Rattle.vk_model.specs.declared.entry.Entry.{Entry}
@@ -23,6 +23,7 @@ use Rattle.vk_resources.specs.Allocating.{allotted, NoRoomIsExact, Allots}
 use Rattle.vk_resources.specs.Held.{Held, IsConsistent, IsInside, HasCell, placed, placed_in, shape_of, shape_in, object_of}
 use Rattle.vk_resources.specs.Matches.{Matches, MatchesLive}
 use Rattle.vk_resources.specs.Done.{DoneBy, Goes, ReadsNothing}
+use Rattle.vk_resources.specs.Rest.{KeepsRest}
 use Rattle.vk_resources.specs.Inner.Steps.{Remaps}
 use Rattle.vk_resources.specs.Counted.{Counts, bound_in, bound_of, mapped_at}
 use Rattle.vk_resources.proofs.CachedBytes.{caching_typed}
@@ -136,6 +137,13 @@ module _ (old new : Held) (id : ℕ) (change : ℕ → ℕ) (v : Bool) (remaps :
 
   cells : (c : Byte) (cell : Cell) → HasCell old c cell → HasCell new c cell
   cells c cell has = stays old new c cell (places (resource_at c)) (images (resource_at c)) (λ p at. regions p.object) (same_host old new c (places (resource_at c)) remaps.cache) has
+
+  pub remapped_rest : (test : Byte → Bool) → KeepsRest old new test
+  remapped_rest test = record {
+    types = λ number was is. types number;
+    sizes = λ number was is. ap length (regions number);
+    bytes = λ number k was is none. ap (λ (r : List ℕ). slice_index r k) (regions number);
+  }
 
   -- ---- as it is asked for and done
 

@@ -16,7 +16,6 @@ use Rattle.vk_model.specs.Trace.Order.{host}
 use Rattle.vk_model.specs.Trace.Objects.{Resource, live, pool_at}
 use Rattle.vk_transfer.specs.Ran.{AreApart}
 use Rattle.vma_pools.specs.declared.allocations.Asked.{Asked}
-use Rattle.vk_backing.specs.Backed as backing
 use Rattle.vk_backing.specs.declared.backing.Own.{Own}
 use Rattle.vk_backing.specs.Backed.{Backed, number_in, object_in, pool_of, IsBacked, IsWhole}
 use Rattle.vk_backing.specs.Spots.{AreSpots}

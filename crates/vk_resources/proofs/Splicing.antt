@@ -17,10 +17,12 @@ use Rattle.vk_transfer.specs.Ran as ran
 use Rattle.vk_transfer.proofs.Ranges.{writes, made_ran}
 use Rattle.vk_resources.specs.declared.resources.Placed.{Placed}
 use Rattle.vk_resources.specs.Held.{Held, IsApart, IsCaching, IsInside, AreShaped, placed, shape_of, lying_in, byte_at, IsThere, HasCell}
-use Rattle.vk_resources.specs.Inner.Steps.{KeepsPlaces, changed_of, HasChanged}
+use Rattle.vk_resources.specs.Rest.{KeepsRest}
+use Rattle.vk_resources.specs.Inner.Steps.{KeepsPlaces, is_of, changed_of, HasChanged}
 use Rattle.vk_image_transfer.specs.Held.{byte_held}
 use Rattle.vk_resources.proofs.Placing.{inside_of}
 use Rattle.vk_resources.proofs.Lying.{changed_apart, changed_keeps, changed_other}
+use Rattle.vk_resources.proofs.Keeping.{rewritten_rest, buffer_kept}
 use Rattle.vk_resources.proofs.CachedBytes.{caching_typed}
 
 module _ (s : Held) (apart : IsApart s.memory s.backed s.resources) (shaped : AreShaped s.resources s.shapes) (b : ℕ) (p : Placed) (here : placed s b ≡ Some p) (flat_is : shape_of s b ≡ None) (at : ℕ) (bytes : List ℕ) (fits : at + length bytes ≤ p.size) where
@@ -60,6 +62,9 @@ module _ (s : Held) (apart : IsApart s.memory s.backed s.resources) (shaped : Ar
 
   pub spliced_caching : IsCaching s.memory s.resources s.cache → IsCaching spliced.memory spliced.resources spliced.cache
   spliced_caching c = caching_typed s.memory spliced.memory s.resources s.cache (λ i q here. type_of-same s.memory p.object q.object new inside.live) c
+
+  pub spliced_rest : KeepsRest s spliced (is_of b)
+  spliced_rest = rewritten_rest s b p inside.live new long s.cache (buffer_kept s b p here flat_is new outside)
 
   -- ---- bytes of the buffer itself
 
@@ -128,7 +133,7 @@ module _ (s : Held) (apart : IsApart s.memory s.backed s.resources) (shaped : Ar
   -- ---- a host write that puts them there
 
   pub spliced_written : HasChanged s spliced b (λ k. after_host_write false (given at bytes k))
-  spliced_written = (spliced_keeps, each)
+  spliced_written = (spliced_keeps, each, spliced_rest)
     where
       -- a byte with its new value
       put : (c : Byte) (cell : Cell) (v : ℕ) → byte_at spliced c ≡ v → HasCell s c cell → HasCell spliced c (record cell { region = v })

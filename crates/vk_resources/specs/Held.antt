@@ -6,7 +6,7 @@ use Rattle.std.specs.BTreeMap.{is_at}
 use Rattle.vk_map_cache.specs.Holdings.{Holdings, held_at, IsCell}
 use Rattle.vk_memory.specs.MemoryState.{MemoryState, IsLive, region_of, type_of}
 use Rattle.vk_model.specs.Run.Caches as caches
-use Rattle.vk_model.specs.Run.Caches.{Cell, value_through}
+use Rattle.vk_model.specs.Run.Caches.{Cell, Clean, Dirty, value_through}
 use Rattle.vk_model.specs.declared.resource.ImageInfo.{ImageInfo}
 use Rattle.vk_model.specs.Trace.Image.{image_size}
 use Rattle.vk_model.specs.Rules.Sizes.{bad_image}
@@ -98,10 +98,21 @@ pub record IsCachedByte (memory : MemoryState) (resources : List (ℕ × Placed)
   pub cached : is_cached_in memory place ≡ true
   pub atom : IsInAtoms place k
 
--- Resources in cached memory begin with an atom, so that no two of them share one; and the host's cache holds bytes of theirs alone (Vulkan, "Host Access to Device Memory Objects"; the alignment: profile).
+-- Whether what the host's cache holds of a byte hasn't reached memory (Vulkan, "Host Access to Device Memory Objects").
+abbrev pub is_dirty : Option caches.Held → Bool
+is_dirty None = false
+is_dirty (Some (Clean v)) = false
+is_dirty (Some (Dirty v)) = true
+
+-- Byte k of its memory object is one of what lies here (Vulkan, "Resource Memory Association").
+abbrev pub IsWithin : Placed → ℕ → Type 0
+IsWithin p k = (p.offset ≤ k) × (k < p.offset + p.size)
+
+-- Resources in cached memory begin with an atom, so that no two of them share one; the host's cache holds bytes of their atoms alone, and what hasn't reached memory is a byte of theirs (Vulkan, "Host Access to Device Memory Objects"; the alignment: profile).
 pub record IsCaching (memory : MemoryState) (resources : List (ℕ × Placed)) (cache : Holdings) : Type 0 where
   pub aligned : (b : ℕ) (p : Placed) → placed_in resources b ≡ Some p → is_cached_in memory p ≡ true → p.offset % 64 ≡ 0
   pub only : (number k : ℕ) → IsSome (held_at cache number k) → IsCachedByte memory resources number k
+  pub dirty : (number k : ℕ) → is_dirty (held_at cache number k) ≡ true → (w : IsCachedByte memory resources number k) × IsWithin w.place k
 
 -- What is held is so.
 abbrev pub IsConsistent : Held → Type 0

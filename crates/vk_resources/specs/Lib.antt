@@ -1,4 +1,5 @@
 pub mod Held
+pub mod Rest
 pub mod Matches
 pub mod Allocating
 pub mod Fits

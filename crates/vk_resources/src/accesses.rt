@@ -13,6 +13,7 @@ use vk_model::{Entry, Sequence};
 
 impl Resources {
     ghost use Rattle.vk_resources.specs.Held.{flat, seen_at};
+    ghost use Rattle.vk_resources.specs.Rest.{KeepsRest, is_changed_by};
     ghost use Rattle.vk_resources.specs.Matches.{MatchesLive};
     ghost use Rattle.vk_resources.specs.Allocating.{NoRoomIsExact, Allots};
     ghost use Rattle.vk_resources.specs.Fits.{FitsEntry};
@@ -63,6 +64,7 @@ impl Resources {
         ensures rooms { IfOk result (λ a. (past : Past) → FitsEntry past entry.now → NoRoomIsExact a self.old entry.now) }
         ensures allots { IfOk result (λ a. (past : Past) → MatchesLive past self.old → FitsEntry past entry.now → Allots a entry.now self.old self.new) }
         ensures counts { OnOk result (Counts entry.now self.old self.new) }
+        ensures rest { OnOk result ((past : Past) → MatchesLive past self.old → FitsEntry past entry.now → KeepsRest self.old self.new (is_changed_by self.old past entry.now)) }
     {
         match entry {
             Entry::Write {
@@ -93,6 +95,7 @@ impl Resources {
         ensures rooms { IfOk result (λ a. (past : Past) → FitsEntry past entry.now → NoRoomIsExact a self.old entry.now) }
         ensures allots { IfOk result (λ a. (past : Past) → MatchesLive past self.old → FitsEntry past entry.now → Allots a entry.now self.old self.new) }
         ensures counts { OnOk result (Counts entry.now self.old self.new) }
+        ensures rest { OnOk result ((past : Past) → MatchesLive past self.old → FitsEntry past entry.now → KeepsRest self.old self.new (is_changed_by self.old past entry.now)) }
     {
         match entry {
             Entry::Flush {

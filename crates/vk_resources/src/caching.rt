@@ -51,6 +51,7 @@ fn atoms_in(size: u64) -> u64
 
 impl Resources {
     ghost use Rattle.vk_resources.specs.Held.{shape_of, flat, seen_at, IsConsistent};
+    ghost use Rattle.vk_resources.specs.Rest.{KeepsRest, is_given_back};
     ghost use Rattle.vk_resources.specs.Matches.{MatchesLive};
     ghost use Rattle.vk_resources.specs.Allocating.{allotted};
     ghost use Rattle.vk_resources.specs.Fits.{FitsEntry};
@@ -158,6 +159,7 @@ impl Resources {
     pub fn turn_over(&mut self, entry: &Entry, atom: u64) -> Result<(), AllocError>
         requires { AtomReady self.old entry.now atom }
         ensures turned { OnOk result (TurnsOver entry.now atom self.old self.new) }
+        ensures rest { OnOk result (KeepsRest self.old self.new (is_given_back self.old entry.now atom)) }
         ensures matches { (past : Past) → MatchesLive past self.old → MatchesLive past self.new }
         ensures placed { self.new.resources ≡ self.old.resources }
         ensures shapes { self.new.shapes ≡ self.old.shapes }

@@ -18,12 +18,13 @@ const WHOLE_OBJECT: u64 = 1 << 63;
 
 impl Resources {
     ghost use Rattle.vk_resources.specs.Held.{placed, shape_of, object_of, IsConsistent};
+    ghost use Rattle.vk_resources.specs.Rest.{KeepsRest, is_changed_by};
     ghost use Rattle.vk_resources.specs.Matches.{MatchesLive};
     ghost use Rattle.vk_resources.specs.Allocating.{NoRoomIsExact, Allots};
     ghost use Rattle.vk_resources.specs.Fits.{FitsEntry};
     ghost use Rattle.vk_resources.specs.Counted.{Counts};
     ghost use Rattle.vk_resources.specs.Done.{DoneBy, EntryReady};
-    ghost use Rattle.vk_resources.specs.Inner.Steps.{IsMaking, MadeOr, ResourceMade, MemoryMade, ShapeReady, PutReady, Puts, FoundOr, SharedMade, BindReady, Binds, IsEmpty, Ends};
+    ghost use Rattle.vk_resources.specs.Inner.Steps.{KeepsObjects, IsMaking, MadeOr, ResourceMade, MemoryMade, ShapeReady, PutReady, Puts, FoundOr, SharedMade, BindReady, Binds, IsEmpty, Ends};
     ghost use Rattle.vk_backing.specs.Backed.{pool_by, allocation_of};
     ghost use Rattle.vk_backing.specs.Steps.{Grows};
 
@@ -212,6 +213,7 @@ impl Resources {
         ensures done { IfOk result (λ a. (e : ℕ) (past : Past) → MatchesLive past self.old → FitsEntry past (entry.Buffer id info.now) → DoneBy a e (entry.Buffer id info.now) past self.old self.new) }
         ensures rooms { IfOk result (λ a. (past : Past) → FitsEntry past (entry.Buffer id info.now) → NoRoomIsExact a self.old (entry.Buffer id info.now)) }
         ensures allots { IfOk result (λ a. (past : Past) → MatchesLive past self.old → FitsEntry past (entry.Buffer id info.now) → Allots a (entry.Buffer id info.now) self.old self.new) }
+        ensures keeps { IfOk result (λ a. KeepsObjects self.old self.new) }
     {
         let asked = Asked {
             size: (info.size + (BUFFER_UNIT - 1)) / BUFFER_UNIT * BUFFER_UNIT,
@@ -237,6 +239,7 @@ impl Resources {
         ensures done { IfOk result (λ a. (e : ℕ) (past : Past) → MatchesLive past self.old → FitsEntry past (entry.Image id info.now) → DoneBy a e (entry.Image id info.now) past self.old self.new) }
         ensures rooms { IfOk result (λ a. (past : Past) → FitsEntry past (entry.Image id info.now) → NoRoomIsExact a self.old (entry.Image id info.now)) }
         ensures allots { IfOk result (λ a. (past : Past) → MatchesLive past self.old → FitsEntry past (entry.Image id info.now) → Allots a (entry.Image id info.now) self.old self.new) }
+        ensures keeps { IfOk result (λ a. KeepsObjects self.old self.new) }
     {
         texels_inside();
         let Ok(shape) = Shape::of(info) else {
@@ -269,6 +272,7 @@ impl Resources {
         ensures done { IfOk result (λ a. (e : ℕ) (past : Past) → MatchesLive past self.old → FitsEntry past entry.now → DoneBy a e entry.now past self.old self.new) }
         ensures rooms { IfOk result (λ a. (past : Past) → FitsEntry past entry.now → NoRoomIsExact a self.old entry.now) }
         ensures allots { IfOk result (λ a. (past : Past) → MatchesLive past self.old → FitsEntry past entry.now → Allots a entry.now self.old self.new) }
+        ensures keeps { IfOk result (λ a. KeepsObjects self.old self.new) }
     {
         match entry {
             Entry::Memory { id, info } => self.make_memory(*id, info.memory_type, info.size),
@@ -286,6 +290,8 @@ impl Resources {
         ensures rooms { IfOk result (λ a. (past : Past) → FitsEntry past entry.now → NoRoomIsExact a self.old entry.now) }
         ensures allots { IfOk result (λ a. (past : Past) → MatchesLive past self.old → FitsEntry past entry.now → Allots a entry.now self.old self.new) }
         ensures counts { OnOk result (Counts entry.now self.old self.new) }
+        // Of all memory objects that stay only the bytes that memory gets change.
+        ensures rest { OnOk result ((past : Past) → MatchesLive past self.old → FitsEntry past entry.now → KeepsRest self.old self.new (is_changed_by self.old past entry.now)) }
     {
         match entry {
             Entry::Memory { .. } | Entry::Buffer { .. } | Entry::Image { .. } => self.make(entry),

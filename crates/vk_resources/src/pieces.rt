@@ -28,6 +28,7 @@ impl Resources {
     ghost use Rattle.vk_transfer.specs.Updates.{update_piece};
     ghost use Rattle.vk_transfer.specs.Copies.{copy_piece};
     ghost use Rattle.vk_resources.specs.Held.{flat, byte_at};
+    ghost use Rattle.vk_resources.specs.Rest.{KeepsRest, is_written};
     ghost use Rattle.vk_resources.specs.Matches.{MatchesLive};
     ghost use Rattle.vk_resources.specs.Allocating.{allotted};
     ghost use Rattle.vk_resources.specs.Fits.{FitsCommand, NamesLive};
@@ -75,6 +76,8 @@ impl Resources {
     pub fn run_piece(&mut self, work: &Work<'_>, number: u64)
         requires { PieceReady self.old work.now number }
         ensures ran { (past : Past) (ms : List ByteWrite) → MatchesLive past self.old → FitsCommand past work.now → slice_get (pieces past work.now) number ≡ Some ms → HaveRun ms (byte_at self.old) (byte_at self.new) }
+        // Of all memory only the bytes that are written change, also where no resource lies.
+        ensures rest { (past : Past) (ms : List ByteWrite) → MatchesLive past self.old → FitsCommand past work.now → slice_get (pieces past work.now) number ≡ Some ms → KeepsRest self.old self.new (is_written ms) }
         ensures matches { (past : Past) → MatchesLive past self.old → MatchesLive past self.new }
         ensures placed { self.new.resources ≡ self.old.resources }
         ensures shapes { self.new.shapes ≡ self.old.shapes }

@@ -18,6 +18,7 @@ use Rattle.vk_resources.specs.declared.resources.Placed.{Placed}
 use Rattle.vk_resources.specs.Held.{Held, placed, shape_of, byte_at}
 use Rattle.vk_resources.specs.Matches.{MatchesLive}
 use Rattle.vk_resources.specs.Fits.{FitsCommand, KeepsApart}
+use Rattle.vk_resources.specs.Rest.{KeepsRest, is_written}
 use Rattle.vk_resources.specs.Inner.Steps.{KeepsPlaces}
 
 -- An image is there, of this shape and at this place.
@@ -65,3 +66,4 @@ pub record HasRunPiece (old new : Held) (c : Cmd) (k : ℕ) : Type 0 where
   pub ran : (past : Past) (ms : List ByteWrite) → MatchesLive past old → FitsCommand past c → slice_get (pieces past c) k ≡ Some ms → HaveRun ms (byte_at old) (byte_at new)
   pub keeps : KeepsPlaces old new
   pub cache : new.cache ≡ old.cache
+  pub rest : (past : Past) (ms : List ByteWrite) → MatchesLive past old → FitsCommand past c → slice_get (pieces past c) k ≡ Some ms → KeepsRest old new (is_written ms)

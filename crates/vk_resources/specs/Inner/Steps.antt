@@ -1,6 +1,6 @@
 -- What each step asks of resources, and what it changes there.
 use Rattle.std.specs.Prelude.{◌≡◌, ◌⊎◌, ℕ, ◌+◌, ◌-◌, ◌/◌, ◌%◌, ◌<◌, ◌≤◌, ◌==◌, [], ◌∷◌, ◌++◌, length, List, Bool, true, Option, Some, None, option_and_then, if◌then◌else◌, All, ⊤}
-use Rattle.vk_memory.specs.MemoryState.{IsLive, IsFull, fresh, region_of, type_of}
+use Rattle.vk_memory.specs.MemoryState.{IsLive, IsFull, fresh, object_at, region_of, type_of}
 use Rattle.vk_map_cache.specs.Holdings.{held_at}
 use Rattle.vk_model.specs.declared.command.Length.{Length}
 use Rattle.vk_model.specs.declared.command.Length.TheVariants as length_of
@@ -12,7 +12,7 @@ use Rattle.vk_model.specs.declared.resource.PoolInfo.{PoolInfo}
 use Rattle.vk_model.specs.declared.resource.Spot.{Spot}
 use Rattle.vk_model.specs.Trace.Objects.{Resource}
 use Rattle.vma_pools.specs.declared.allocations.Asked.{Asked}
-use Rattle.vk_model.specs.World.Bytes.{Byte, in_buffer, in_image}
+use Rattle.vk_model.specs.World.Bytes.{Byte, in_buffer, in_image, resource_at}
 use Rattle.vk_model.specs.World.ByteWrites.{ByteWrite, fill_size}
 use Rattle.vk_model.specs.Run.Caches.{Cell}
 use Rattle.vk_transfer.specs.declared.filling.Fill.{Fill}
@@ -26,6 +26,7 @@ use Rattle.vk_resources.specs.Counted.{bound_of, mapped_at}
 use Rattle.vk_backing.specs.Backed.{IsBacked, IsWhole}
 use Rattle.vk_backing.specs.Steps.{Grows, Owns, Shares, Releases, Maps, MakesPool, DropsPool, OwnAllots, ShareAllots, ReleaseAllots, PoolAllots, DropAllots, KeepsAllotted, Asks}
 use Rattle.vk_resources.specs.Held.{Held, placed, shape_of, flat, object_of, LiesShared, IsInside, IsShaped, byte_at, host_at, is_cached_in, IsInAtoms, IsThere, HasCell}
+use Rattle.vk_resources.specs.Rest.{KeepsRest, is_written}
 
 -- ---- bytes
 
@@ -45,9 +46,13 @@ pub record KeepsPlaces (old new : Held) : Type 0 where
   pub lengths : (number : ℕ) → length (region_of new.memory number) ≡ length (region_of old.memory number)
   pub types : (number : ℕ) → type_of new.memory number ≡ type_of old.memory number
 
--- Byte writes have been made in memory, and nothing else has changed (Vulkan, "Copy Commands").
+-- Memory objects that are live before and after are what they were (Vulkan, "Device Memory").
+abbrev pub KeepsObjects : Held → Held → Type 0
+KeepsObjects old new = (number : ℕ) → IsLive old.memory number → IsLive new.memory number → object_at new.memory number ≡ object_at old.memory number
+
+-- Byte writes have been made in memory, and nothing else has changed, of resources or between them (Vulkan, "Copy Commands").
 abbrev pub HasRun : Held → Held → List ByteWrite → Type 0
-HasRun old new ms = KeepsPlaces old new × HaveRun ms (byte_at old) (byte_at new) × (new.cache ≡ old.cache)
+HasRun old new ms = KeepsPlaces old new × HaveRun ms (byte_at old) (byte_at new) × (new.cache ≡ old.cache) × KeepsRest old new (is_written ms)
 
 -- Where a resource lies that is in cached memory; none where there is no such resource, and where it is in other memory.
 abbrev pub cached_at : Held → ℕ → Option Placed
@@ -58,9 +63,13 @@ abbrev pub changed_of : ℕ → (ℕ → Cell → Cell) → Byte → Cell → Ce
 changed_of b change (in_buffer c k) cell = if b == c then change k cell else cell
 changed_of b change (in_image i l a x y p) cell = cell
 
--- Each byte of a buffer has become what the change makes of it, in memory and in the host's cache, and nothing else has changed.
+-- Whether a byte is of the resource of an id.
+abbrev pub is_of : ℕ → Byte → Bool
+is_of b c = b == resource_at c
+
+-- Each byte of a buffer has become what the change makes of it, in memory and in the host's cache, and nothing else has changed, of resources or between them.
 abbrev pub HasChanged : Held → Held → ℕ → (ℕ → Cell → Cell) → Type 0
-HasChanged old new b change = KeepsPlaces old new × ((c : Byte) (cell : Cell) → IsThere old c → HasCell old c cell → HasCell new c (changed_of b change c cell))
+HasChanged old new b change = KeepsPlaces old new × ((c : Byte) (cell : Cell) → IsThere old c → HasCell old c cell → HasCell new c (changed_of b change c cell)) × KeepsRest old new (is_of b)
 
 -- A range lies in a buffer that is there.
 abbrev pub MayReach : Option Placed → ℕ → ℕ → Type 0

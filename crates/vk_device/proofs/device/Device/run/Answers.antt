@@ -41,3 +41,10 @@ returns-clause-changed c = λ t steps s led sound.
     let fits = fits_so_far c.no_fault_is_sound.ensures t s (c.defined_runs_follow.ensures t steps s run) sound in
     let can = runnable t steps s c.args.self.now led c.args.piece c.requires.among c.index.result.now c.index.ensures run sound.faultless c.commands_name_live.ensures fits c.offered_are_pieces.ensures.pieces c.pieces_are_byte_writes.ensures in
     c.run_piece.ensures.ran s.front.past _ led.matches can.fit can.content
+
+pub returns-clause-rest : goal.returns-clause-rest
+returns-clause-rest c = λ t steps s led sound.
+    let run = c.direct_runs_are_runs.ensures t steps s _ led.run in
+    let fits = fits_so_far c.no_fault_is_sound.ensures t s (c.defined_runs_follow.ensures t steps s run) sound in
+    let can = runnable t steps s c.args.self.now led c.args.piece c.requires.among c.index.result.now c.index.ensures run sound.faultless c.commands_name_live.ensures fits c.offered_are_pieces.ensures.pieces c.pieces_are_byte_writes.ensures in
+    c.run_piece.ensures.rest s.front.past _ led.matches can.fit can.content

@@ -1,8 +1,13 @@
 use Rattle.std.proofs.Common.{subst, IfOk}
 use Rattle.vk_resources.specs.Held.{Held}
 use Rattle.vk_resources.specs.Inner.Steps.{MadeOr}
-use Rattle.vk_resources.proofs.Backing.{backed_with, made}
+use Rattle.vk_resources.proofs.Backing.{backed_with, made, grown_consistent}
 use Rattle.vk_resources.proofs.resources.Resources.allocate.Goals as goal
+
+pub invariant_of-self : goal.invariant_of-self
+invariant_of-self c =
+    let old : Held = record { memory = c.self.inside.memories; backed = c.self.inside.backing; resources = c.self.inside.resources.entries; shapes = c.self.inside.shapes.entries; cache = c.self.inside.cache } in
+    grown_consistent old c.self.invariant c.own.new.self c.own.new.memories c.own.ensures.grows c.own.ensures.backed
 
 pub returns-clause-made : goal.returns-clause-made
 returns-clause-made c =

@@ -1,11 +1,13 @@
-use Rattle.std.proofs.Common.{◌-◌, true, false, sym, subst}
+use Rattle.std.proofs.Common.{◌-◌, true, false, refl, sym, subst}
 use Rattle.vk_backing.specs.Steps.{one_more}
 use Rattle.vk_resources.proofs.Resting.{rest_done}
 use Rattle.vk_resources.proofs.PoolEntries.{pool_absent, pool_done}
 use Rattle.vk_resources.proofs.PoolEnds.{drop_unused, drop_done}
+use Rattle.vk_resources.specs.Rest.{is_changed_by}
+use Rattle.vk_resources.proofs.Keeping.{objects_rest, same_objects, ends_keep}
 use Rattle.vk_resources.proofs.Ending.{free_empty, free_done, destroy_empty, destroy_done}
 use Rattle.vk_resources.proofs.Allotting.{free_allots, destroy_allots, rest_rooms, rest_allots, is_rest}
-use Rattle.vk_resources.proofs.Remapping.{map_done, map_rooms, map_allots, unmap_done, unmap_rooms, unmap_allots, uncounted}
+use Rattle.vk_resources.proofs.Remapping.{remapped_rest, map_done, map_rooms, map_allots, unmap_done, unmap_rooms, unmap_allots, uncounted}
 use Rattle.vk_resources.specs.Counted.{Counts}
 use Rattle.vk_model.specs.declared.entry.Entry.{Entry}
 use Rattle.vk_resources.proofs.resources.Resources.apply.Goals as goal
@@ -21,6 +23,9 @@ returns-in-Free-clause-done c = λ e past m fit. free_done c.args.self.now c.arg
 pub returns-in-Free-clause-allots : goal.returns-in-Free-clause-allots
 returns-in-Free-clause-allots c = λ past m fit. free_allots c.args.self.now c.end.new.self c.args.entry.now c.in-Free.memory c.in-Free.is c.end.ensures.ended
 
+pub returns-in-Free-clause-rest : goal.returns-in-Free-clause-rest
+returns-in-Free-clause-rest c = λ past m fit. objects_rest c.args.self.now c.end.new.self (is_changed_by c.args.self.now past c.args.entry.now) (ends_keep c.args.self.now c.end.new.self c.in-Free.memory c.end.ensures.ended)
+
 pub end-requires-in-Destroy : goal.end-requires-in-Destroy
 end-requires-in-Destroy c = λ consistent. destroy_empty c.args.self.now c.args.entry.now c.in-Destroy.resource c.in-Destroy.is c.requires.0 c.requires.1 c.requires.2 consistent
 
@@ -29,6 +34,9 @@ returns-in-Destroy-clause-done c = λ e past m fit. destroy_done c.args.self.now
 
 pub returns-in-Destroy-clause-allots : goal.returns-in-Destroy-clause-allots
 returns-in-Destroy-clause-allots c = λ past m fit. destroy_allots c.args.self.now c.end-in-Destroy.new.self c.args.entry.now c.in-Destroy.resource c.in-Destroy.is c.end-in-Destroy.ensures.ended
+
+pub returns-in-Destroy-clause-rest : goal.returns-in-Destroy-clause-rest
+returns-in-Destroy-clause-rest c = λ past m fit. objects_rest c.args.self.now c.end-in-Destroy.new.self (is_changed_by c.args.self.now past c.args.entry.now) (ends_keep c.args.self.now c.end-in-Destroy.new.self c.in-Destroy.resource c.end-in-Destroy.ensures.ended)
 
 -- ---- pools
 
@@ -46,6 +54,12 @@ pub returns-in-DropPool-clause-done : goal.returns-in-DropPool-clause-done
 returns-in-DropPool-clause-done c = λ e past m fit.
     drop_done c.args.self.now c.args.entry.now c.in-DropPool.pool c.in-DropPool.is past m fit c.drop_pool.ensures.consistent c.drop_pool.new.self c.drop_pool.ensures.dropped e
 
+pub returns-in_ok-make_pool-in-Pool-clause-rest : goal.returns-in_ok-make_pool-in-Pool-clause-rest
+returns-in_ok-make_pool-in-Pool-clause-rest c = λ past m fit. objects_rest c.args.self.now c.make_pool.new.self (is_changed_by c.args.self.now past c.args.entry.now) (same_objects c.args.self.now c.make_pool.new.self c.in_ok-make_pool-in-Pool.ensures.made.memory)
+
+pub returns-in-DropPool-clause-rest : goal.returns-in-DropPool-clause-rest
+returns-in-DropPool-clause-rest c = λ past m fit. objects_rest c.args.self.now c.drop_pool.new.self (is_changed_by c.args.self.now past c.args.entry.now) (same_objects c.args.self.now c.drop_pool.new.self c.drop_pool.ensures.dropped.memory)
+
 -- ---- mappings
 
 pub returns-in-Map : goal.returns-in-Map
@@ -56,6 +70,7 @@ returns-in-Map c =
       rooms = λ past fit. map_rooms s c.map.new.self b one_more true m y b c.in-Map.is;
       allots = λ past matches fit. map_allots s c.map.new.self b one_more true m y b c.in-Map.is;
       counts = subst (λ (z : Entry). Counts z s c.map.new.self) (sym c.in-Map.is) (m.maps, m.memory);
+      rest = λ past matches fit. remapped_rest s c.map.new.self b one_more true m (is_changed_by s past y);
     }
 
 pub returns-in-Unmap : goal.returns-in-Unmap
@@ -66,6 +81,7 @@ returns-in-Unmap c =
       rooms = λ past fit. unmap_rooms s c.unmap.new.self b (λ n. n - 1) false m y b c.in-Unmap.is;
       allots = λ past matches fit. unmap_allots s c.unmap.new.self b (λ n. n - 1) false m y b c.in-Unmap.is;
       counts = subst (λ (z : Entry). Counts z s c.unmap.new.self) (sym c.in-Unmap.is) (m.maps, m.memory);
+      rest = λ past matches fit. remapped_rest s c.unmap.new.self b (λ n. n - 1) false m (is_changed_by s past y);
     }
 
 -- ---- the others
@@ -78,4 +94,5 @@ returns-in_default c =
       rooms = λ past fit. rest_rooms c.args.self.now c.args.entry.now rest past fit;
       allots = λ past m fit. rest_allots c.args.self.now c.args.entry.now rest past fit;
       counts = uncounted c.args.entry.now c.args.self.now c.args.self.now c.in_default.not-Map c.in_default.not-Unmap;
+      rest = λ past m fit. objects_rest c.args.self.now c.args.self.now (is_changed_by c.args.self.now past c.args.entry.now) (λ number was is. refl);
     }

@@ -5,7 +5,8 @@ use Rattle.vk_model.specs.declared.resource.Kind.TheVariants as kind
 use Rattle.vk_model.specs.Trace.Objects.{of_buffer}
 use Rattle.vk_resources.proofs.Applying.{creates_buffer}
 use Rattle.vk_resources.proofs.Ending.{buffer_fits}
-use Rattle.vk_resources.proofs.Making.{own_done, may_bind, bind_done}
+use Rattle.vk_resources.proofs.Making.{own_done, may_bind, bind_done, resource_keeps, shared_keeps}
+use Rattle.vk_resources.proofs.Keeping.{same_objects}
 use Rattle.vk_resources.proofs.Sharing.{all_elsewhere, shared_done, shared_rooms, shared_allots}
 use Rattle.vk_resources.proofs.resources.Resources.make_buffer.Goals as goal
 
@@ -48,3 +49,15 @@ returns-in-PoolUpper-clause-rooms c =
 pub returns-in-PoolUpper-clause-allots : goal.returns-in-PoolUpper-clause-allots
 returns-in-PoolUpper-clause-allots c =
     IfOk-weaker c.make_shared-in-PoolUpper.result _ _ (λ a made. λ past m fit. shared_allots c.args.self.now c.make_shared-in-PoolUpper.new.self (entry.Buffer c.args.id c.args.info.now) c.args.id (of_buffer c.args.info.now) c.args.info.now.size None (creates_buffer c.args.id c.args.info.now) c.in-PoolUpper.pool true c.in-PoolUpper.is (record { size = (c.args.info.now.size + 15) / 16 * 16; align = 16; kind = kind.Linear }) (refl, refl, refl) a made) c.make_shared-in-PoolUpper.ensures.made
+
+pub returns-in-Dedicated-clause-keeps : goal.returns-in-Dedicated-clause-keeps
+returns-in-Dedicated-clause-keeps c = IfOk-weaker c.make_resource.result _ _ (λ a made. resource_keeps a c.args.self.now c.make_resource.new.self c.args.id c.in-Dedicated.memory_type _ _ _ made) c.make_resource.ensures.made
+
+pub returns-in_ok-bind-in-Memory-clause-keeps : goal.returns-in_ok-bind-in-Memory-clause-keeps
+returns-in_ok-bind-in-Memory-clause-keeps c = same_objects c.args.self.now c.bind.new.self c.in_ok-bind-in-Memory.ensures.bound.0
+
+pub returns-in-Pool-clause-keeps : goal.returns-in-Pool-clause-keeps
+returns-in-Pool-clause-keeps c = IfOk-weaker c.make_shared.result _ _ (λ a made. shared_keeps a c.args.self.now c.make_shared.new.self c.args.id c.in-Pool.pool _ _ _ _ made) c.make_shared.ensures.made
+
+pub returns-in-PoolUpper-clause-keeps : goal.returns-in-PoolUpper-clause-keeps
+returns-in-PoolUpper-clause-keeps c = IfOk-weaker c.make_shared-in-PoolUpper.result _ _ (λ a made. shared_keeps a c.args.self.now c.make_shared-in-PoolUpper.new.self c.args.id c.in-PoolUpper.pool _ _ _ _ made) c.make_shared-in-PoolUpper.ensures.made

@@ -12,7 +12,8 @@ use Rattle.vk_resources.proofs.Applying.{creates_image}
 use Rattle.vk_model.specs.Memory.Suballocation.{IsRequest}
 use Rattle.vk_resources.proofs.Requests.{image_request}
 use Rattle.vk_resources.proofs.Ending.{image_fits, image_good}
-use Rattle.vk_resources.proofs.Making.{image_some, image_shaped, some_of, made_as, binds_as, shared_as, own_done, may_bind, bind_done}
+use Rattle.vk_resources.proofs.Making.{image_some, image_shaped, some_of, made_as, binds_as, shared_as, own_done, may_bind, bind_done, resource_keeps, shared_keeps}
+use Rattle.vk_resources.proofs.Keeping.{same_objects}
 use Rattle.vk_resources.proofs.Sharing.{all_elsewhere, shared_done, shared_rooms, shared_allots}
 use Rattle.vk_resources.proofs.resources.Resources.make_image.Goals as goal
 
@@ -127,3 +128,15 @@ returns-in-PoolUpper-clause-allots c =
     let align : c.requirements-need.result.align ≡ (of_image c.args.info.now).align = ap (λ (n : Need). n.align) c.requirements-need.ensures.need ∙ ap (λ (m : ImageInfo). (of_image m).align) same in
     let asked : Asked = record { size = c.requirements-need.result.size; align = c.requirements-need.result.align; kind = c.args.info.now.tiling } in
     IfOk-weaker c.make_shared-in-PoolUpper.result _ _ (λ a made. λ past m fit. shared_allots c.args.self.now c.make_shared-in-PoolUpper.new.self (entry.Image c.args.id c.args.info.now) c.args.id (of_image c.args.info.now) (image_size c.args.info.now c.args.info.now.tiling) (Some c.args.info.now) (creates_image c.args.id c.args.info.now) c.in-PoolUpper.pool true c.in-PoolUpper.is asked (sym size, sym align, refl) a (shared_as a c.args.self.now c.make_shared-in-PoolUpper.new.self c.args.id c.in-PoolUpper.pool c.requirements-need.result.size (image_size c.args.info.now c.args.info.now.tiling) asked true c.in-Ok.shape c.args.info.now size same made)) c.make_shared-in-PoolUpper.ensures.made
+
+pub returns-in-Dedicated-clause-keeps : goal.returns-in-Dedicated-clause-keeps
+returns-in-Dedicated-clause-keeps c = IfOk-weaker c.make_resource.result _ _ (λ a made. resource_keeps a c.args.self.now c.make_resource.new.self c.args.id c.in-Dedicated.memory_type _ _ _ made) c.make_resource.ensures.made
+
+pub returns-in_ok-bind-in-Memory-clause-keeps : goal.returns-in_ok-bind-in-Memory-clause-keeps
+returns-in_ok-bind-in-Memory-clause-keeps c = same_objects c.args.self.now c.bind.new.self c.in_ok-bind-in-Memory.ensures.bound.0
+
+pub returns-in-Pool-clause-keeps : goal.returns-in-Pool-clause-keeps
+returns-in-Pool-clause-keeps c = IfOk-weaker c.make_shared.result _ _ (λ a made. shared_keeps a c.args.self.now c.make_shared.new.self c.args.id c.in-Pool.pool _ _ _ _ made) c.make_shared.ensures.made
+
+pub returns-in-PoolUpper-clause-keeps : goal.returns-in-PoolUpper-clause-keeps
+returns-in-PoolUpper-clause-keeps c = IfOk-weaker c.make_shared-in-PoolUpper.result _ _ (λ a made. shared_keeps a c.args.self.now c.make_shared-in-PoolUpper.new.self c.args.id c.in-PoolUpper.pool _ _ _ _ made) c.make_shared-in-PoolUpper.ensures.made

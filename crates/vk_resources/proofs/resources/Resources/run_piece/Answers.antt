@@ -23,11 +23,16 @@ run_fill-requires-clause-piece c =
 
 pub returns-in-Fill-clause-ran : goal.returns-in-Fill-clause-ran
 returns-in-Fill-clause-ran c = λ past ms m fits at.
-    fill_made c.args.self.now c.args.work.now c.args.number c.requires c.in-Fill.buffer c.in-Fill.offset c.in-Fill.word c.in-Fill.size (sym c.work.view_is ∙ c.in-Fill.is) c.there-placed.result c.there-placed.ensures c.filling.result c.filling.ensures
-    c.run_fill.new.self (c.run_fill.ensures c.in-Fill.buffer c.there-placed.ensures) past ms m at
+    (fill_made c.args.self.now c.args.work.now c.args.number c.requires c.in-Fill.buffer c.in-Fill.offset c.in-Fill.word c.in-Fill.size (sym c.work.view_is ∙ c.in-Fill.is) c.there-placed.result c.there-placed.ensures c.filling.result c.filling.ensures
+    c.run_fill.new.self (c.run_fill.ensures c.in-Fill.buffer c.there-placed.ensures) past ms m at).1
 
 pub returns-in-Fill-clause-matches : goal.returns-in-Fill-clause-matches
 returns-in-Fill-clause-matches c = λ past m. keeps_matches (live past) c.args.self.now c.run_fill.new.self (c.run_fill.ensures c.in-Fill.buffer c.there-placed.ensures).0 m
+
+pub returns-in-Fill-clause-rest : goal.returns-in-Fill-clause-rest
+returns-in-Fill-clause-rest c = λ past ms m fits at.
+    (fill_made c.args.self.now c.args.work.now c.args.number c.requires c.in-Fill.buffer c.in-Fill.offset c.in-Fill.word c.in-Fill.size (sym c.work.view_is ∙ c.in-Fill.is) c.there-placed.result c.there-placed.ensures c.filling.result c.filling.ensures
+    c.run_fill.new.self (c.run_fill.ensures c.in-Fill.buffer c.there-placed.ensures) past ms m at).3
 
 -- ---- updates
 
@@ -46,11 +51,16 @@ run_update-requires-clause-piece c =
 
 pub returns-in-Update-clause-ran : goal.returns-in-Update-clause-ran
 returns-in-Update-clause-ran c = λ past ms m fits at.
-    update_made c.args.self.now c.args.work.now c.args.number c.requires c.in-Update.buffer c.in-Update.offset c.in-Update.bytes (sym c.work.view_is ∙ c.in-Update.is) c.there-placed-in-Update.result c.there-placed-in-Update.ensures
-    (record { offset = c.in-Update.offset; bytes = c.as_slice.result }) refl c.as_slice.ensures c.run_update.new.self (c.run_update.ensures c.in-Update.buffer c.there-placed-in-Update.ensures) past ms m at
+    (update_made c.args.self.now c.args.work.now c.args.number c.requires c.in-Update.buffer c.in-Update.offset c.in-Update.bytes (sym c.work.view_is ∙ c.in-Update.is) c.there-placed-in-Update.result c.there-placed-in-Update.ensures
+    (record { offset = c.in-Update.offset; bytes = c.as_slice.result }) refl c.as_slice.ensures c.run_update.new.self (c.run_update.ensures c.in-Update.buffer c.there-placed-in-Update.ensures) past ms m at).1
 
 pub returns-in-Update-clause-matches : goal.returns-in-Update-clause-matches
 returns-in-Update-clause-matches c = λ past m. keeps_matches (live past) c.args.self.now c.run_update.new.self (c.run_update.ensures c.in-Update.buffer c.there-placed-in-Update.ensures).0 m
+
+pub returns-in-Update-clause-rest : goal.returns-in-Update-clause-rest
+returns-in-Update-clause-rest c = λ past ms m fits at.
+    (update_made c.args.self.now c.args.work.now c.args.number c.requires c.in-Update.buffer c.in-Update.offset c.in-Update.bytes (sym c.work.view_is ∙ c.in-Update.is) c.there-placed-in-Update.result c.there-placed-in-Update.ensures
+    (record { offset = c.in-Update.offset; bytes = c.as_slice.result }) refl c.as_slice.ensures c.run_update.new.self (c.run_update.ensures c.in-Update.buffer c.there-placed-in-Update.ensures) past ms m at).3
 
 -- ---- copies
 
@@ -70,9 +80,27 @@ there-to-requires c = destination_there c.args.self.now c.args.work.now c.args.n
 
 pub returns-in-OfBuffers-clause-ran : goal.returns-in-OfBuffers-clause-ran
 returns-in-OfBuffers-clause-ran c = λ past ms m fits at.
-    copy_made c.args.self.now c.args.work.now c.args.number c.requires c.in-Copy.source c.in-Copy.destination c.in-Copy.regions (sym c.work.view_is ∙ c.in-Copy.is) c.run_copy.new.self c.in-OfBuffers.pieces
+    (copy_made c.args.self.now c.args.work.now c.args.number c.requires c.in-Copy.source c.in-Copy.destination c.in-Copy.regions (sym c.work.view_is ∙ c.in-Copy.is) c.run_copy.new.self c.in-OfBuffers.pieces
     (regions_of c.work.inside.command.now c.work.inside.regions c.in-Copy.source c.in-Copy.destination c.in-Copy.regions c.in-OfBuffers.pieces c.work.invariant c.in-Copy.is c.in-OfBuffers.is)
-    (c.run_copy.ensures c.in-Copy.source c.in-Copy.destination c.there-from.ensures c.there-to.ensures) past ms at
+    (c.run_copy.ensures c.in-Copy.source c.in-Copy.destination c.there-from.ensures c.there-to.ensures) past ms at).1
+
+pub returns-in-OfBuffers-clause-rest : goal.returns-in-OfBuffers-clause-rest
+returns-in-OfBuffers-clause-rest c = λ past ms m fits at.
+    (copy_made c.args.self.now c.args.work.now c.args.number c.requires c.in-Copy.source c.in-Copy.destination c.in-Copy.regions (sym c.work.view_is ∙ c.in-Copy.is) c.run_copy.new.self c.in-OfBuffers.pieces
+    (regions_of c.work.inside.command.now c.work.inside.regions c.in-Copy.source c.in-Copy.destination c.in-Copy.regions c.in-OfBuffers.pieces c.work.invariant c.in-Copy.is c.in-OfBuffers.is)
+    (c.run_copy.ensures c.in-Copy.source c.in-Copy.destination c.there-from.ensures c.there-to.ensures) past ms at).3
+
+pub returns-in-OfBuffers-clause-placed : goal.returns-in-OfBuffers-clause-placed
+returns-in-OfBuffers-clause-placed c = (c.run_copy.ensures c.in-Copy.source c.in-Copy.destination c.there-from.ensures c.there-to.ensures).0.resources
+
+pub returns-in-OfBuffers-clause-shapes : goal.returns-in-OfBuffers-clause-shapes
+returns-in-OfBuffers-clause-shapes c = (c.run_copy.ensures c.in-Copy.source c.in-Copy.destination c.there-from.ensures c.there-to.ensures).0.shapes
+
+pub returns-in-OfBuffers-clause-cache : goal.returns-in-OfBuffers-clause-cache
+returns-in-OfBuffers-clause-cache c = (c.run_copy.ensures c.in-Copy.source c.in-Copy.destination c.there-from.ensures c.there-to.ensures).2
+
+pub returns-in-OfBuffers-clause-allotted : goal.returns-in-OfBuffers-clause-allotted
+returns-in-OfBuffers-clause-allotted c = (c.run_copy.ensures c.in-Copy.source c.in-Copy.destination c.there-from.ensures c.there-to.ensures).0.same
 
 -- ---- images
 

@@ -1,8 +1,12 @@
-use Rattle.std.proofs.Common.{sym}
+use Rattle.std.proofs.Common.{◌/◌, ◌==◌, ◌&&◌, sym}
 use Rattle.std.proofs.lemmas.Result.{on_ok_weaker}
 use Rattle.vk_model.specs.Trace.Objects.{live}
 use Rattle.vk_resources.proofs.Matching.{keeps_matches}
-use Rattle.vk_resources.proofs.HostAccesses.{is_flat, has_atom, turns_over}
+use Rattle.std.specs.Prelude.{is_some}
+use Rattle.vk_map_cache.specs.Holdings.{only_where}
+use Rattle.vk_model.specs.Run.CachedRuns.{turned_over}
+use Rattle.vk_resources.specs.Inner.Steps.{cached_at}
+use Rattle.vk_resources.proofs.HostAccesses.{is_flat, has_atom, turns_over, turned_rest}
 use Rattle.vk_resources.proofs.resources.Resources.turn_over.Goals as goal
 
 pub turn_over_atom-requires-clause-buffer : goal.turn_over_atom-requires-clause-buffer
@@ -18,3 +22,11 @@ returns-in-Some-clause-turned c =
 
 pub returns-in-Some-clause-matches : goal.returns-in-Some-clause-matches
 returns-in-Some-clause-matches c = λ past m. keeps_matches (live past) c.args.self.now c.turn_over_atom.new.self c.turn_over_atom.ensures.keeps m
+
+pub returns-in-Some-clause-rest : goal.returns-in-Some-clause-rest
+returns-in-Some-clause-rest c =
+    let r = c.requires in
+    let s = c.args.self.now in
+    let b = c.in-Some.buffer in
+    let change = only_where (λ j. is_some (cached_at s b) && j / 64 == c.args.atom) turned_over in
+    on_ok_weaker c.turn_over_atom.result (λ changed. turned_rest s c.turn_over_atom.new.self c.args.entry.now b c.args.atom change changed (turns_over r.0 s r.1 c.args.entry.now b (sym c.in-Some.ensures) r.2 c.args.atom c.turn_over_atom.new.self r.3 changed)) c.turn_over_atom.ensures.turned
