@@ -40,7 +40,7 @@ use Rattle.vk_resources.specs.Held.{Held, placed_in, shape_in, IsThere}
 use Rattle.vk_device.specs.Empty.{nothing_backed}
 use Rattle.vk_resources.proofs.Lying.{where_lies}
 use Rattle.vk_resources.specs.declared.resources.Placed.{Placed}
-use Rattle.vk_resources.specs.Matches.{MatchesLive}
+use Rattle.vk_resources.specs.Matches.{MatchesLive, Stands}
 use Rattle.vk_resources.proofs.Matching.{matches_same}
 use Rattle.vk_model.specs.Laws.{GrowthKeeps}
 use Rattle.vk_model.specs.Run.Pieces.{cut, row_bytes, clear_pieces, pieces}
@@ -112,8 +112,8 @@ quiet_points past base newer points long each whole i =
 live_stays : (past all : Past) → entries all ≡ entries past → (i : ℕ) → live all i ≡ live past i
 live_stays past all same i = ap (λ (l : List Entry). if list_any (λ x. among i (ended_by x)) l then None else find (λ x. holds (made_by x) (λ j. i == j)) l) same
 
-matches_stay : (past all : Past) (r : Held) → entries all ≡ entries past → MatchesLive past r → MatchesLive all r
-matches_stay past all r same m = matches_same (live past) (live all) r (live_stays past all same) m
+stands_stay : (past all : Past) (r : Held) → entries all ≡ entries past → Stands past r → Stands all r
+stands_stay past all r same m = record { live = matches_same (live past) (live all) r (live_stays past all same) m.live }
 
 alive_stays : (past all : Past) (c : Cmd) → entries all ≡ entries past → NamesLive past c → NamesLive all c
 alive_stays past all c same alive i kind asked = subst (λ (x : Option Entry). IsTrue (holds x kind)) (sym (live_stays past all same i)) (alive i kind asked)
@@ -155,7 +155,7 @@ pub record IsComing (t : List Entry) (e : ℕ) (x : Entry) (f : Front) (r : Held
   pub clean : IsClean (order t)
   pub unbroken : IsUnbroken (order t)
   pub ordered : IsOrdered (order t)
-  pub matches : MatchesLive (host e x ∷ f.past) r
+  pub matches : Stands (host e x ∷ f.past) r
   pub alive : (n : Node) (c : Cmd) → Contains (nodes (after_entry e x f).past) n → n.act ≡ Runs c → length (nodes f.past) ≤ n.number → 0 < length (pieces (after_entry e x f).past c) → NamesLive (after_entry e x f).past c
   pub below : e < 131072
 
@@ -244,7 +244,7 @@ module _ (t : List Entry) (e : ℕ) (x : Entry) (f : Front) (r : Held) (h : IsCo
 
     command_fits : GrowthKeeps → (c : Cmd) → (point_of p).action ≡ Run c → is_run c ≡ true → CommandFits (point_of p ∷ past) c r
     command_fits keeps c is_c runs = record {
-      matches = matches_stay (host e x ∷ f.past) (point_of p ∷ past) r same_past h.matches;
+      matches = stands_stay (host e x ∷ f.past) (point_of p ∷ past) r same_past h.matches;
       fits = fits;
       alive = λ some. alive_stays (after_entry e x f).past (point_of p ∷ past) c (same_past ∙ sym all_entries)
           (h.alive n c there refl older (subst (λ (k : ℕ). 0 < k) (sym (count_stays (point_of p ∷ past) (after_entry e x f).past c (all_entries ∙ sym same_past) fits)) some));
@@ -286,7 +286,7 @@ module _ (t : List Entry) (e : ℕ) (x : Entry) (f : Front) (r : Held) (h : IsCo
 
     -- the resources are ready for its command
     pub prepare_ready : GrowthKeeps → (d : Device) → d.resources ≡ r → PrepareReady d (point_of p)
-    prepare_ready keeps d same c is_c runs = let f = command_fits keeps c is_c runs in (point_of p ∷ past, subst (λ (h : Held). MatchesLive (point_of p ∷ past) h) (sym same) f.matches, f.fits)
+    prepare_ready keeps d same c is_c runs = let f = command_fits keeps c is_c runs in (point_of p ∷ past, subst (λ (h : Held). Stands (point_of p ∷ past) h) (sym same) f.matches, f.fits)
 
 -- ---- the commands that were made ready
 
@@ -314,8 +314,8 @@ advanced t steps s x xs d new w points i atoms h same counts waiting waits are a
   memory = h.memory;
   run = h.run;
   holds = rw same h.holds;
-  matches = subst (λ (f : Front). MatchesLive f.past new.resources) (sym (applied_front s 0 x xs))
-      (rw same (let g = entry_grows s.count x s.front in matches_stay (host s.count x ∷ s.front.past) (after_entry s.count x s.front).past d.resources (same_entries (host s.count x ∷ s.front.past) (after_entry s.count x s.front).past g) h.matches));
+  matches = subst (λ (f : Front). Stands f.past new.resources) (sym (applied_front s 0 x xs))
+      (rw same (let g = entry_grows s.count x s.front in stands_stay (host s.count x ∷ s.front.past) (after_entry s.count x s.front).past d.resources (same_entries (host s.count x ∷ s.front.past) (after_entry s.count x s.front).past g) h.matches));
   works = subst (λ (f : Front). AreWorks new.works.items f.past) (sym (applied_front s 0 x xs))
       (subst (λ (l : Past). AreWorks new.works.items l) (ap (λ (l : List AnyPoint). past_after s.front.past l) (take_all i points all) ∙ arrived d s x points h.counts are) works);
   waits = rw (waiting, counts) (subst (λ (f : Front). IsWaiting w (d.count + 1) f) (ap (λ (n : ℕ). after_entry n x s.front) h.counts ∙ sym (applied_front s 0 x xs)) waits);
@@ -328,18 +328,21 @@ advanced t steps s x xs d new w points i atoms h same counts waiting waits are a
 
 -- ---- a new device
 
-pub nothing_held : (r : Held) → r.backed ≡ nothing_backed → r.resources ≡ [] → r.shapes ≡ [] → MatchesLive [] r
-nothing_held r backed resources shapes = record {
-  sizes = λ b. ap (λ (bs : List (ℕ × Placed)). option_map (λ (p : Placed). p.size) (placed_in bs b)) resources;
-  shapes = λ i. ap (λ (l : List (ℕ × ImageInfo)). shape_in l i) shapes;
-  places = λ b p r at is. absurd cc;
-  owned = λ i. ap (λ (b : Backed). is_some (backing.object_of b i)) backed;
-  memories = λ k number x is has. absurd cc;
-  types = λ i number t is has. absurd cc;
-  pools = λ i. ap (λ (b : Backed). info_by b i) backed;
-  pooled = λ i a has. let both : ◌≡◌ {A = Option ℕ} None (Some a) = ap (λ (b : Backed). allocation_of b i) (sym backed) ∙ has in absurd cc;
-  whole = λ a x is. let both : ◌≡◌ {A = Option Allocation} None (Some x) = sym (get_or_past [] a None (omega arith)) ∙ ap (λ (b : Backed). allocation_at b.pools a) (sym backed) ∙ is in absurd cc;
-}
+pub nothing_held : (r : Held) → r.backed ≡ nothing_backed → r.resources ≡ [] → r.shapes ≡ [] → Stands [] r
+nothing_held r backed resources shapes = record { live = nothing_live }
+  where
+    nothing_live : MatchesLive [] r
+    nothing_live = record {
+      sizes = λ b. ap (λ (bs : List (ℕ × Placed)). option_map (λ (p : Placed). p.size) (placed_in bs b)) resources;
+      shapes = λ i. ap (λ (l : List (ℕ × ImageInfo)). shape_in l i) shapes;
+      places = λ b p r at is. absurd cc;
+      owned = λ i. ap (λ (b : Backed). is_some (backing.object_of b i)) backed;
+      memories = λ k number x is has. absurd cc;
+      types = λ i number t is has. absurd cc;
+      pools = λ i. ap (λ (b : Backed). info_by b i) backed;
+      pooled = λ i a has. let both : ◌≡◌ {A = Option ℕ} None (Some a) = ap (λ (b : Backed). allocation_of b i) (sym backed) ∙ has in absurd cc;
+      whole = λ a x is. let both : ◌≡◌ {A = Option Allocation} None (Some x) = sym (get_or_past [] a None (omega arith)) ∙ ap (λ (b : Backed). allocation_at b.pools a) (sym backed) ∙ is in absurd cc;
+    }
 
 pub none_there : (r : Held) → r.resources ≡ [] → (c : Byte) → IsThere r c → ⊥
 none_there r resources c there =

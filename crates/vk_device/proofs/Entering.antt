@@ -127,11 +127,11 @@ module _ (e : ℕ) (past : Past) (x : Entry) (clean : IsClean (host e x ∷ past
     was_there : (c : Byte) → IsTrue (is_made past c) → IsThere new c → IsThere old c
     was_there c made_it there =
         let l = where_lies new c there in
-        let k = live_of_placed (live (host e x ∷ past)) new (resource_at c) l.place goes.0 l.here in
+        let k = live_of_placed (live (host e x ∷ past)) new (resource_at c) l.place goes.0.live l.here in
         let before = lived (resource_at c) k.made made_it k.alive_is in
         let p = some_sized (placed old (resource_at c)) l.place.size (m.sizes (resource_at c) ∙ ap (option_and_then size_made) before ∙ k.size) in
         let shape : shape_of old (resource_at c) ≡ shape_of new (resource_at c) =
-        m.shapes (resource_at c) ∙ ap (option_and_then image_in) (before ∙ sym k.alive_is) ∙ sym (goes.0.shapes (resource_at c)) in
+        m.shapes (resource_at c) ∙ ap (option_and_then image_in) (before ∙ sym k.alive_is) ∙ sym (goes.0.live.shapes (resource_at c)) in
         lies_there old c (record {
           place = p.0;
           at = l.at;
@@ -217,7 +217,7 @@ host_done t steps s x xs atoms d mid new anything go_on h may are clean touched 
 
     holds_at : (c : Byte) → IsThere new c → (made_it : Bool) → is_made past c ≡ made_it → HasCell new c (cells_of (memory_after_entry past atoms [] x between) c)
     holds_at c there true is =
-        let at_mid = was_there s.count past x clean mid new (touched.matches past h.led.matches) goes c is there in
+        let at_mid = was_there s.count past x clean mid new (touched.matches past h.led.matches).live goes c is there in
         let before = same_there d.resources mid touched.resources touched.shapes c at_mid in
         let led = h.led.holds c before in
         let had : HasCell d.resources c (cells_of between c) = record { held = rw is led.held; region = rw is led.region } in
@@ -225,13 +225,13 @@ host_done t steps s x xs atoms d mid new anything go_on h may are clean touched 
     holds_at c there false is = as_memory c (new_cell past mid new x atoms c (cells_of between c) (record { held = rw is (sym bare); region = rw is refl }) made_buffer)
       where
         absent : IsThere mid c → ⊥
-        absent at = clash (there_made past mid (touched.matches past h.led.matches) c at) is
+        absent at = clash (there_made past mid (touched.matches past h.led.matches).live c at) is
 
         bare : host_at new c ≡ None
         bare = goes.2 c there absent
 
         made_buffer : (((i : ℕ) (y : BufferInfo) → x ≡ entry.Buffer i y → ⊥) → ((i : ℕ) (y : ImageInfo) → x ≡ entry.Image i y → ⊥) → ⊥)
-        made_buffer other image = none_new s.count past x clean new goes.0 other image c there is
+        made_buffer other image = none_new s.count past x clean new goes.0.live other image c there is
 
 -- what it answers, and has done
 pub goes_of : (a : Applied) (e : ℕ) (x : Entry) (past : Past) (old new : Held) → (a ≡ applied.NoRoom → ⊥) → DoneBy a e x past old new → Goes e x past old new
@@ -263,7 +263,7 @@ reads_of t steps s x xs atoms d mid new law clean h touched (applied.Bytes bytes
         ∙ ap (λ (l : List ℕ). (s.count, l) ∷ []) (sym (reads ∙ map_below (λ k. seen_at mid (in_buffer b (o + k))) (λ k. host_view (memory_after_atoms (entry.Read b o n) atoms h.led.memory) (in_buffer b (o + k))) n byte))
       where
         at : (p : Placed) × (flat d.resources b ≡ Some p) × (o + n ≤ p.size)
-        at = range_there s.front.past d.resources h.led.matches b o n fits
+        at = range_there s.front.past d.resources h.led.matches.live b o n fits
 
         byte : (k : ℕ) → k < n → seen_at mid (in_buffer b (o + k)) ≡ host_view (memory_after_atoms (entry.Read b o n) atoms h.led.memory) (in_buffer b (o + k))
         byte k lt =

@@ -43,7 +43,7 @@ use Rattle.vk_resources.specs.Held.{byte_at, host_at, holding_in, placed, placed
 use Rattle.vk_resources.proofs.Lying.{there_stays}
 use Rattle.vk_model.specs.declared.resource.ImageInfo.{ImageInfo}
 use Rattle.vk_map_cache.specs.Holdings.{Holdings}
-use Rattle.vk_resources.specs.Matches.{MatchesLive}
+use Rattle.vk_resources.specs.Matches.{Stands}
 use Rattle.vk_device.specs.declared.device.Device.{Device}
 use Rattle.vk_device.specs.Led.{Led, AreWorks}
 use Rattle.vk_device.specs.Inner.Fits.{FitsAction, AllFit}
@@ -149,7 +149,7 @@ module _ (t : List Entry) (steps : List Step) (s : Stage) (d : Device) (led : Le
   ms = named_piece s.front.past (name_of s.front.past piece)
 
   -- the device when it has run
-  pub has_run : PiecesGoOn → (new : Device) → HaveRun ms (byte_at d.resources) (byte_at new.resources) → MatchesLive s.front.past new.resources → new.resources.resources ≡ d.resources.resources → new.resources.shapes ≡ d.resources.shapes → new.resources.cache ≡ d.resources.cache → new.works ≡ d.works
+  pub has_run : PiecesGoOn → (new : Device) → HaveRun ms (byte_at d.resources) (byte_at new.resources) → Stands s.front.past new.resources → new.resources.resources ≡ d.resources.resources → new.resources.shapes ≡ d.resources.shapes → new.resources.cache ≡ d.resources.cache → new.works ≡ d.works
       → new.waiting ≡ d.waiting → new.count ≡ d.count → IsOffers new.offers s.front.past (name_of s.front.past piece ∷ s.done)
       → Led t (steps ++ RunPiece (name_of s.front.past piece) ∷ []) (record s { done = name_of s.front.past piece ∷ s.done }) new
   has_run go_on new ran matches resources shapes cache works waiting count offers = record {
@@ -217,7 +217,7 @@ module _ (t : List Entry) (steps : List Step) (s : Stage) (d : Device) (led : Le
     its_content law = named_content s.front.past s.done d.offers led.offers piece at law y piece_is_of
 
     its_sources : OfferedArePieces → PiecesAreByteWrites → (c : Byte) (w : ByteWrite) (e : Byte) → write_to c (named_piece s.front.past (name_of s.front.past piece)) ≡ Some w → w.source ≡ From e → IsThere d.resources e
-    its_sources law together = sources_there s.front.past d.resources led.matches together y piece.index (named_piece s.front.past (name_of s.front.past piece)) its_fit its_alive (its_content law)
+    its_sources law together = sources_there s.front.past d.resources led.matches.live together y piece.index (named_piece s.front.past (name_of s.front.past piece)) its_fit its_alive (its_content law)
 
     by_laws : OfferedArePieces → PiecesAreByteWrites → IsRunnable s.front.past d piece y
     by_laws law together = record { ready = piece_ready; fit = its_fit; content = its_content law; sources = its_sources law together }

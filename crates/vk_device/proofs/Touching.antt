@@ -18,7 +18,7 @@ use Rattle.vk_resources.specs.declared.resources.Placed.{Placed}
 use Rattle.vk_resources.specs.Held.{Held, placed_in, shape_in, IsThere, HasCell}
 use Rattle.vk_resources.proofs.Lying.{there_stays}
 use Rattle.vk_model.specs.declared.resource.ImageInfo.{ImageInfo}
-use Rattle.vk_resources.specs.Matches.{MatchesLive}
+use Rattle.vk_resources.specs.Matches.{Stands}
 use Rattle.vk_device.specs.Inner.Ready.{HasTouched, Touches}
 use Rattle.vk_laws.proofs.DirectRuns.RunsOn.{no_atoms}
 
@@ -131,7 +131,7 @@ module _ (answer : List ℕ → ℕ → ℕ) (next : List ℕ → ℕ → List �
     }
 
     -- it is
-    pub takes : (answer held 2 % 2 == 1) ≡ true → (new : Held) → TurnsOver x i mid new → ((past : Past) → MatchesLive past mid → MatchesLive past new) → new.resources ≡ mid.resources → new.shapes ≡ mid.shapes → SoFar answer next x count (i + 1) first (next held 2) old new
+    pub takes : (answer held 2 % 2 == 1) ≡ true → (new : Held) → TurnsOver x i mid new → ((past : Past) → Stands past mid → Stands past new) → new.resources ≡ mid.resources → new.shapes ≡ mid.shapes → SoFar answer next x count (i + 1) first (next held 2) old new
     takes picked new turned matches resources shapes = record {
       left = one_left.0;
       counts = let c = so.counts in let one = one_left.1 in omega (arith, c, one);
@@ -169,7 +169,7 @@ module _ (answer : List ℕ → ℕ → ℕ) (next : List ℕ → ℕ → List �
 
 -- the same by what the scheduler answered and holds then
 module _ (answer : List ℕ → ℕ → ℕ) (next : List ℕ → ℕ → List ℕ) (x : Entry) (count : ℕ) (first : List ℕ) (old : Held) (i : ℕ) (held after : List ℕ) (mid : Held) (below : i < count) (so : SoFar answer next x count i first held old mid) (picked : ℕ) (is : picked ≡ answer held 2) (so_next : after ≡ next held 2) where
-  pub took : picked % 2 ≡ 1 → (new : Held) → TurnsOver x i mid new → ((past : Past) → MatchesLive past mid → MatchesLive past new) → new.resources ≡ mid.resources → new.shapes ≡ mid.shapes → SoFar answer next x count (i + 1) first after old new
+  pub took : picked % 2 ≡ 1 → (new : Held) → TurnsOver x i mid new → ((past : Past) → Stands past mid → Stands past new) → new.resources ≡ mid.resources → new.shapes ≡ mid.shapes → SoFar answer next x count (i + 1) first after old new
   took one new turned matches resources shapes =
       subst (λ (l : List ℕ). SoFar answer next x count (i + 1) first l old new) (sym so_next)
       (takes answer next x count first old i held mid below so (subst (λ (n : ℕ). (n % 2 == 1) ≡ true) is (eq-eqb (picked % 2) 1 one)) new turned matches resources shapes)

@@ -17,7 +17,7 @@ use Rattle.vk_resources.specs.declared.applied.Applied.TheVariants as applied
 use Rattle.vk_resources.specs.Done.{EntryReady, DoneBy}
 use Rattle.vk_resources.specs.Fits.{FitsEntry}
 use Rattle.vk_resources.specs.Held.{Held}
-use Rattle.vk_resources.specs.Matches.{MatchesLive}
+use Rattle.vk_resources.specs.Matches.{Stands}
 use Rattle.vk_device.specs.declared.device.Device.{Device}
 use Rattle.vk_device.specs.Inner.Clean.{IsClean}
 use Rattle.vk_device.specs.Inner.Ready.{HostDone, Touches, Picks, AdvanceReady}
@@ -93,18 +93,18 @@ module _ (laws : Laws) (answer : List ℕ → ℕ → ℕ) (next : List ℕ → 
         fits : FitsEntry (before_entry answer next s held x).stage.front.past x
         fits = fits_next _ x _ clean
 
-        matches : MatchesLive (before_entry answer next s held x).stage.front.past r
+        matches : Stands (before_entry answer next s held x).stage.front.past r
         matches = touches.touched.matches (before_entry answer next s held x).stage.front.past now.led.matches
 
         -- where there was no room
-        pub refused : (new : Held) (a : Applied) → a ≡ applied.NoRoom → ((e : ℕ) (past : Past) → MatchesLive past r → FitsEntry past x → DoneBy a e x past r new) → (new ≡ mid.resources) × (after ≡ between)
+        pub refused : (new : Held) (a : Applied) → a ≡ applied.NoRoom → ((e : ℕ) (past : Past) → Stands past r → FitsEntry past x → DoneBy a e x past r new) → (new ≡ mid.resources) × (after ≡ between)
         refused new a is done =
             let none = no_change a (before_entry answer next s held x).stage.count x (before_entry answer next s held x).stage.front.past r new is (done (before_entry answer next s held x).stage.count (before_entry answer next s held x).stage.front.past matches fits) in
             let many = no_atoms (before_entry answer next s held x).stage.front.past x none.1 in
             let same = touches.touched.same (ap (λ (n : ℕ). (atom_picks answer next n 0 (before_entry answer next s held x).held).0) many) in
             (none.0 ∙ same, touches.holds ∙ ap (λ (n : ℕ). (atom_picks answer next n 0 (before_entry answer next s held x).held).1) many ∙ sym (picked t steps s xs h).1)
 
-        module _ (new : Held) (a : Applied) (other : a ≡ applied.NoRoom → ⊥) (done : (e : ℕ) (past : Past) → MatchesLive past r → FitsEntry past x → DoneBy a e x past r new) where
+        module _ (new : Held) (a : Applied) (other : a ≡ applied.NoRoom → ⊥) (done : (e : ℕ) (past : Past) → Stands past r → FitsEntry past x → DoneBy a e x past r new) where
           did : DoneBy a (before_entry answer next s held x).stage.count x (before_entry answer next s held x).stage.front.past r new
           did = done (before_entry answer next s held x).stage.count (before_entry answer next s held x).stage.front.past matches fits
 
@@ -119,5 +119,5 @@ module _ (laws : Laws) (answer : List ℕ → ℕ → ℕ) (next : List ℕ → 
           pub applied_then : (final : Device) → ((t : List Entry) (steps : List Step) (s : Stage) (xs : List Entry) (atoms : List ℕ) → HostDone t steps s x xs atoms (record mid { resources = new }) → Led t (steps ++ Apply atoms 0 ∷ []) (applied s 0 x xs) final) → Applies answer next a t steps s held x xs final after
           applied_then final advances = applies answer next t steps s held x xs final after touches.holds (advances t (steps ++ (before_entry answer next s held x).steps) (before_entry answer next s held x).stage xs (picked_atoms answer next t steps s held x xs).0 was_done) a other
 
-      pub advance_ready : (new : Held) (a : Applied) → (a ≡ applied.NoRoom → ⊥) → ((e : ℕ) (past : Past) → MatchesLive past r → FitsEntry past x → DoneBy a e x past r new) → IsNext old x → AdvanceReady (record mid { resources = new }) x
+      pub advance_ready : (new : Held) (a : Applied) → (a ≡ applied.NoRoom → ⊥) → ((e : ℕ) (past : Past) → Stands past r → FitsEntry past x → DoneBy a e x past r new) → IsNext old x → AdvanceReady (record mid { resources = new }) x
       advance_ready new a other done n = (n.0, n.1 ++ (before_entry answer next n.2 held x).steps, (before_entry answer next n.2 held x).stage, n.3, (picked_atoms answer next n.0 n.1 n.2 held x n.3).0, was_done n.0 n.1 n.2 n.3 n.4 new a other done)

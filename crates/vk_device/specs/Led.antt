@@ -24,7 +24,7 @@ use Rattle.vk_resources.specs.declared.applied.Applied.{Applied}
 use Rattle.vk_resources.specs.declared.applied.Applied.TheVariants as applied
 use Rattle.vk_resources.specs.Held.{byte_at, IsThere, HasCell}
 use Rattle.vk_resources.specs.Rest.{KeepsRest, is_written}
-use Rattle.vk_resources.specs.Matches.{MatchesLive}
+use Rattle.vk_resources.specs.Matches.{Stands}
 use Rattle.vk_device.specs.declared.device.Device.{Device}
 use Rattle.vk_model.specs.Trace.Supported.{is_supported}
 
@@ -37,7 +37,7 @@ pub record Led (t : List Entry) (steps : List Step) (s : Stage) (d : Device) : T
   pub memory : HostMemory
   pub run : DirectRun t steps s memory
   pub holds : (c : Byte) → IsThere d.resources c → HasCell d.resources c (cells_of memory c)
-  pub matches : MatchesLive s.front.past d.resources
+  pub matches : Stands s.front.past d.resources
   pub works : AreWorks d.works.items s.front.past
   pub waits : IsWaiting d.waiting d.count s.front
   pub counts : d.count ≡ s.count

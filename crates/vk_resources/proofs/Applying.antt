@@ -33,14 +33,14 @@ use Rattle.vk_resources.specs.Held.{Held, IsApart, IsConsistent, placed, placed_
 use Rattle.vk_model.specs.declared.resource.Spot.{Spot}
 use Rattle.vk_backing.specs.Backed as backing
 use Rattle.vk_backing.specs.Backed.{Backed, number_in, pool_of, allocation_of, info_by, LiesIn, IsBacked, IsWhole}
-use Rattle.vk_resources.specs.Matches.{Matches, MatchesLive, LiesAt, LiesOf, in_pool, is_own, size_made, has_memory, type_made, type_of_place}
+use Rattle.vk_resources.specs.Matches.{Matches, MatchesLive, Stands, LiesAt, LiesOf, in_pool, is_own, size_made, has_memory, type_made, type_of_place}
 use Rattle.vk_resources.specs.Fits.{IsUnused, FitsEntry, FitsPlace}
 use Rattle.vk_resources.specs.Done.{LeavesCells, HoldsNoneNew, Goes, DoneBy, ReadsNothing}
 use Rattle.vk_resources.specs.Inner.Steps.{Makes, MemoryMade, ResourceMade, Binds, BindReady, Puts, Ends}
 use Rattle.vk_resources.proofs.Placing.{kept_object, new_object, inside_of, turned}
 use Rattle.vk_resources.proofs.Lying.{where_lies, where_is, byte_stays, there_stays}
 use Rattle.vk_resources.proofs.CachedBytes.{host_of, clear_atoms}
-use Rattle.vk_resources.proofs.Matching.{home, unplaced, unowned, unshared}
+use Rattle.vk_resources.proofs.Matching.{home, unplaced, unowned, unshared, stands_on}
 use Rattle.vk_resources.proofs.Living.{live_new, live_end, not_live, shared_on, Grows, grown, ended_matches, region_there}
 
 -- ---- bytes that stay
@@ -168,16 +168,16 @@ memory_grows old new past e i info apart makes same shapes unused m =
     }
 
 pub memory_done : (old new : Held) (y : Entry) (i : ℕ) (info : MemoryInfo) → y ≡ entry.Memory i info → IsApart old.memory old.backed old.resources → (a : Applied) → MemoryMade a old new i info.memory_type info.size
-    → (e : ℕ) (past : Past) → MatchesLive past old → FitsEntry past y → DoneBy a e y past old new
+    → (e : ℕ) (past : Past) → Stands past old → FitsEntry past y → DoneBy a e y past old new
 memory_done old new y i info is apart a made e past m fit =
     subst (λ (x : Entry). DoneBy a e x past old new) (sym is) (go a made (subst (λ (x : Entry). FitsEntry past x) is fit))
   where
     go : (a : Applied) → MemoryMade a old new i info.memory_type info.size → FitsEntry past (entry.Memory i info) → DoneBy a e (entry.Memory i info) past old new
     go applied.Done made fit =
-        let g = memory_grows old new past e i info apart made.0 made.1 made.2 fit.0 m in (
+        let g = memory_grows old new past e i info apart made.0 made.1 made.2 fit.0 m.live in (
           (
-            grown (live past) (live (host e (entry.Memory i info) ∷ past)) old new i (entry.Memory i info) g m,
-            λ c cell there after has. grown_cells (live past) (live (host e (entry.Memory i info) ∷ past)) old new i (entry.Memory i info) g m apart (made_kept old new i info.memory_type info.size made.0) made.4 c cell there has,
+            stands_on past e (entry.Memory i info) old new m (grown (live past) (live (host e (entry.Memory i info) ∷ past)) old new i (entry.Memory i info) g m.live),
+            λ c cell there after has. grown_cells (live past) (live (host e (entry.Memory i info) ∷ past)) old new i (entry.Memory i info) g m.live apart (made_kept old new i info.memory_type info.size made.0) made.4 c cell there has,
             none_new old new made.1 made.2,
           ),
           λ b o n h. absurd cc,
@@ -264,15 +264,15 @@ module _ (old new : Held) (x : Entry) (i : ℕ) (r : Resource) (size : ℕ) (sha
           let lt : k < p.size = subst (λ (q : Placed). k < q.size) same w.2 in
           host_of new b p at k lt ∙ ap (λ (h : Holdings). held_at h p.object (p.offset + k)) cache ∙ unheld (held_at old.cache p.object (p.offset + k)) (none k lt)
 
-  pub resource_goes : (past : Past) (e : ℕ) → Grows (live past) (live (host e x ∷ past)) old new i x → MatchesLive past old → IsApart old.memory old.backed old.resources
+  pub resource_goes : (past : Past) (e : ℕ) → Grows (live past) (live (host e x ∷ past)) old new i x → Stands past old → IsApart old.memory old.backed old.resources
       → ((number : ℕ) → IsLive old.memory number → region_of new.memory number ≡ region_of old.memory number) → new.cache ≡ old.cache → HoldsNoneNew old new → Goes e x past old new
   resource_goes past e g m apart kept cache none = (
-    grown (live past) (live (host e x ∷ past)) old new i x g m,
-    λ c cell there after has. subst (λ (y : Cell). HasCell new c y) (sym (creating.keeps past c cell)) (grown_cells (live past) (live (host e x ∷ past)) old new i x g m apart kept cache c cell there has),
+    stands_on past e x old new m (grown (live past) (live (host e x ∷ past)) old new i x g m.live),
+    λ c cell there after has. subst (λ (y : Cell). HasCell new c y) (sym (creating.keeps past c cell)) (grown_cells (live past) (live (host e x ∷ past)) old new i x g m.live apart kept cache c cell there has),
     none,
   )
 
-  pub resource_done : (t : ℕ) → r.place ≡ place.Dedicated t → IsConsistent old → (a : Applied) → ResourceMade a old new i t size r.size shape → (e : ℕ) (past : Past) → MatchesLive past old → IsUnused past i → DoneBy a e x past old new
+  pub resource_done : (t : ℕ) → r.place ≡ place.Dedicated t → IsConsistent old → (a : Applied) → ResourceMade a old new i t size r.size shape → (e : ℕ) (past : Past) → Stands past old → IsUnused past i → DoneBy a e x past old new
   resource_done t own consistent a made e past m unused = go a made
     where
       go : (a : Applied) → ResourceMade a old new i t size r.size shape → DoneBy a e x past old new
@@ -280,7 +280,7 @@ module _ (old new : Held) (x : Entry) (i : ℕ) (r : Resource) (size : ℕ) (sha
           let makes = made.0 in
           let p : Placed = record { size = size; object = length old.memory.objects; offset = 0 } in
           let g = resource_grows past e p consistent.0 made.1 refl (rw own (ap is_some makes.here)) makes.others
-          (rw own (makes.here, refl)) (made_kept old new i t r.size makes) (type makes) (type_kept old new i t r.size makes) (made_pools old new i t r.size makes past x m unused) unused in (
+          (rw own (makes.here, refl)) (made_kept old new i t r.size makes) (type makes) (type_kept old new i t r.size makes) (made_pools old new i t r.size makes past x m.live unused) unused in (
             resource_goes past e g m consistent.0 (made_kept old new i t r.size makes) made.3 (new_unheld p made.1 made.3 none),
             creating.reads,
           )
@@ -301,14 +301,14 @@ module _ (old new : Held) (x : Entry) (i : ℕ) (r : Resource) (size : ℕ) (sha
       go (applied.Bytes bytes) made = absurd made
       go applied.NoRoom made = (made.0, creating.untouched)
 
-  pub bound_done : (k o : ℕ) → r.place ≡ place.Memory k o → IsConsistent old → BindReady old k o size → Binds old new i k o size shape → (e : ℕ) (past : Past) → MatchesLive past old → IsUnused past i → FitsPlace past r (place.Memory k o) → DoneBy applied.Done e x past old new
+  pub bound_done : (k o : ℕ) → r.place ≡ place.Memory k o → IsConsistent old → BindReady old k o size → Binds old new i k o size shape → (e : ℕ) (past : Past) → Stands past old → IsUnused past i → FitsPlace past r (place.Memory k o) → DoneBy applied.Done e x past old new
   bound_done k o at consistent ready binds e past m unused fits =
       let none = not_live past i unused in
-      let has_none : object_of old i ≡ None = unowned (live past) old i m (ap (λ (o : Option Entry). holds o has_memory) none) in
+      let has_none : object_of old i ≡ None = unowned (live past) old i m.live (ap (λ (o : Option Entry). holds o has_memory) none) in
       let alone : is_some (object_of new i) ≡ is_own r.place = rw at (ap is_some (objects i ∙ has_none)) in
       let lives : IsTrue (holds (live (host e x ∷ past) k) is_memory) = rw (live_new past e x i creating.makes creating.ends unused k, other_entry fits.0 none) fits.0 in
       let kept : (number : ℕ) → IsLive old.memory number → region_of new.memory number ≡ region_of old.memory number = λ number lives. ap (λ (n : MemoryState). region_of n number) binds.0 in
-      let g = resource_grows past e p consistent.0 puts refl alone (λ j other. objects j) (subst (λ (q : Place). LiesAt (live (host e x ∷ past)) new i q p) (sym at) (lives, objects k ∙ ready.has, refl)) kept (type has_none) (λ number lives. ap (λ (n : MemoryState). type_of n number) binds.0) (bound_pools past m unused) unused in
+      let g = resource_grows past e p consistent.0 puts refl alone (λ j other. objects j) (subst (λ (q : Place). LiesAt (live (host e x ∷ past)) new i q p) (sym at) (lives, objects k ∙ ready.has, refl)) kept (type has_none) (λ number lives. ap (λ (n : MemoryState). type_of n number) binds.0) (bound_pools past m.live unused) unused in
       (resource_goes past e g m consistent.0 kept binds.3 (new_unheld p puts binds.3 bare), creating.reads)
     where
       p : Placed
@@ -349,9 +349,9 @@ module _ (old new : Held) (x : Entry) (i : ℕ) (r : Resource) (size : ℕ) (sha
 
 -- ---- what ends
 
-pub end_goes : (old new : Held) (past : Past) (e r : ℕ) (x : Entry) → made_by x ≡ None → ended_by x ≡ r ∷ [] → ((c : Byte) (cell : Cell) → after_host past [] x c cell ≡ cell) → MatchesLive past old → IsApart old.memory old.backed old.resources → option_and_then pool_in (live past r) ≡ None
+pub end_goes : (old new : Held) (past : Past) (e r : ℕ) (x : Entry) → made_by x ≡ None → ended_by x ≡ r ∷ [] → ((c : Byte) (cell : Cell) → after_host past [] x c cell ≡ cell) → Stands past old → IsApart old.memory old.backed old.resources → option_and_then pool_in (live past r) ≡ None
     → ((b : ℕ) (p : Placed) (t : Resource) → (b ≡ r → ⊥) → placed old b ≡ Some p → option_and_then resource_in (live past b) ≡ Some t → LiesAt (live past) old b t.place p → home b t.place ≡ r → ⊥) → Ends old new r → Goes e x past old new
-end_goes old new past e r x makes ends_it same m apart no_pool clear ends = (ended_matches (live past) (live (host e x ∷ past)) old new r now m apart no_pool clear ends, leaves, none)
+end_goes old new past e r x makes ends_it same m apart no_pool clear ends = (stands_on past e x old new m (ended_matches (live past) (live (host e x ∷ past)) old new r now m.live apart no_pool clear ends), leaves, none)
   where
     now : (j : ℕ) → live (host e x ∷ past) j ≡ cond (j == r) None (live past j)
     now = live_end past e x r makes ends_it
@@ -372,7 +372,7 @@ end_goes old new past e r x makes ends_it same m apart no_pool clear ends = (end
         let ne = other c after in
         subst (λ (y : Cell). HasCell new c y) (sym (same c cell))
         (stays old new c cell (ends.resources (resource_at c) ne) (ends.shapes (resource_at c) ne)
-        (λ p at. region_there (live past) (live (host e x ∷ past)) old new r now m apart no_pool clear ends (resource_at c) p ne at) (host_same c ne) has)
+        (λ p at. region_there (live past) (live (host e x ∷ past)) old new r now m.live apart no_pool clear ends (resource_at c) p ne at) (host_same c ne) has)
 
     none : HoldsNoneNew old new
     none c after absent = let ne = other c after in absurd (absent (there_stays new old c (sym (ends.resources (resource_at c) ne)) (sym (ends.shapes (resource_at c) ne)) after))

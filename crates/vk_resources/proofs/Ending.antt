@@ -15,7 +15,7 @@ use Rattle.vk_model.specs.Rules.Ids.{is_memory, is_resource}
 use Rattle.vk_model.specs.Rules.Sizes.{bad_image}
 use Rattle.vk_resources.specs.declared.applied.Applied.TheVariants as applied
 use Rattle.vk_resources.specs.Held.{Held, IsConsistent, placed, shape_of, object_of}
-use Rattle.vk_resources.specs.Matches.{MatchesLive, size_made, has_memory}
+use Rattle.vk_resources.specs.Matches.{MatchesLive, Stands, size_made, has_memory}
 use Rattle.vk_resources.specs.Fits.{IsUnused, FitsEntry, FitsBuffer, FitsImage, FitsPlace}
 use Rattle.vk_resources.specs.Done.{DoneBy}
 use Rattle.vk_resources.specs.Inner.Steps.{BindReady, IsEmpty, Ends}
@@ -73,26 +73,26 @@ resource_no_pool (Some (entry.Buffer i x)) h = refl
 resource_no_pool (Some (entry.Image i x)) h = refl
 resource_no_pool (Some _) h = absurd cc
 
-module _ (s : Held) (y : Entry) (m : ℕ) (is : y ≡ entry.Free m) (past : Past) (matches : MatchesLive past s) (fit : FitsEntry past y) (consistent : IsConsistent s) where
+module _ (s : Held) (y : Entry) (m : ℕ) (is : y ≡ entry.Free m) (past : Past) (matches : Stands past s) (fit : FitsEntry past y) (consistent : IsConsistent s) where
   pub free_empty : IsEmpty s m
   free_empty =
       let fits = subst (λ (x : Entry). FitsEntry past x) is fit in
-      empty (live past) _ s s m (live_end past 0 (entry.Free m) m refl refl) matches consistent.0 (memory_no_pool (live past m) fits.0) (λ b p t other at his lies. freed_clear past s matches m b p t other his fits.1 lies)
+      empty (live past) _ s s m (live_end past 0 (entry.Free m) m refl refl) matches.live consistent.0 (memory_no_pool (live past m) fits.0) (λ b p t other at his lies. freed_clear past s matches.live m b p t other his fits.1 lies)
 
   pub free_done : (new : Held) → Ends s new m → (e : ℕ) → DoneBy applied.Done e y past s new
   free_done new ends e =
       let fits = subst (λ (x : Entry). FitsEntry past x) is fit in
       subst (λ (x : Entry). DoneBy applied.Done e x past s new) (sym is)
-      (end_goes s new past e m (entry.Free m) refl refl (λ c cell. refl) matches consistent.0 (memory_no_pool (live past m) fits.0) (λ b p t other at his lies. freed_clear past s matches m b p t other his fits.1 lies) ends, λ b o n h. absurd cc)
+      (end_goes s new past e m (entry.Free m) refl refl (λ c cell. refl) matches consistent.0 (memory_no_pool (live past m) fits.0) (λ b p t other at his lies. freed_clear past s matches.live m b p t other his fits.1 lies) ends, λ b o n h. absurd cc)
 
-module _ (s : Held) (y : Entry) (r : ℕ) (is : y ≡ entry.Destroy r) (past : Past) (matches : MatchesLive past s) (fit : FitsEntry past y) (consistent : IsConsistent s) where
+module _ (s : Held) (y : Entry) (r : ℕ) (is : y ≡ entry.Destroy r) (past : Past) (matches : Stands past s) (fit : FitsEntry past y) (consistent : IsConsistent s) where
   pub destroy_empty : IsEmpty s r
   destroy_empty =
       let fits = subst (λ (x : Entry). FitsEntry past x) is fit in
-      empty (live past) _ s s r (live_end past 0 (entry.Destroy r) r refl refl) matches consistent.0 (resource_no_pool (live past r) fits) (λ b p t other at his lies. destroyed_clear past s matches r b p t other his fits lies)
+      empty (live past) _ s s r (live_end past 0 (entry.Destroy r) r refl refl) matches.live consistent.0 (resource_no_pool (live past r) fits) (λ b p t other at his lies. destroyed_clear past s matches.live r b p t other his fits lies)
 
   pub destroy_done : (new : Held) → Ends s new r → (e : ℕ) → DoneBy applied.Done e y past s new
   destroy_done new ends e =
       let fits = subst (λ (x : Entry). FitsEntry past x) is fit in
       subst (λ (x : Entry). DoneBy applied.Done e x past s new) (sym is)
-      (end_goes s new past e r (entry.Destroy r) refl refl (λ c cell. refl) matches consistent.0 (resource_no_pool (live past r) fits) (λ b p t other at his lies. destroyed_clear past s matches r b p t other his fits lies) ends, λ b o n h. absurd cc)
+      (end_goes s new past e r (entry.Destroy r) refl refl (λ c cell. refl) matches consistent.0 (resource_no_pool (live past r) fits) (λ b p t other at his lies. destroyed_clear past s matches.live r b p t other his fits lies) ends, λ b o n h. absurd cc)

@@ -142,7 +142,7 @@ copy_named a b gs past k ms is = rw (copy_piece, is) refl
 module _ (s : Held) (y : Cmd) (k : ℕ) (ready : PieceReady s y k) where
   -- what it names is held
   there : (c : Cmd) (b : ℕ) → y ≡ c → Contains (asked_by_command c) (b, is_buffer) → IsSome (flat s b)
-  there c b is named = named_there ready.past s ready.matches b (subst (λ (c : Cmd). NamesLive ready.past c) is ready.alive b is_buffer named)
+  there c b is named = named_there ready.past s ready.matches.live b (subst (λ (c : Cmd). NamesLive ready.past c) is ready.alive b is_buffer named)
 
   module _ (b o w : ℕ) (n : Length) (is : y ≡ cmd.Fill b o n w) where
     pub fill_there : IsSome (flat s b)
@@ -151,8 +151,8 @@ module _ (s : Held) (y : Cmd) (k : ℕ) (ready : PieceReady s y k) where
     module _ (p : Placed) (here : flat s b ≡ Some p) (f : Fill) (of : f ≡ fill_of o n w p) where
       pub fill_may : (f.size ≡ 4 * (f.size / 4)) × (f.offset + f.size ≤ p.size) × (4096 * k < f.size)
       fill_may =
-          let whole = fill_whole ready.past s ready.matches b o n w p here (subst (λ (c : Cmd). FitsCommand ready.past c) is ready.fits) in
-          rw of (whole.0, whole.1, fill_below ready.past s ready.matches b o n w p k here (subst (λ (c : Cmd). k < length (pieces ready.past c)) is ready.below))
+          let whole = fill_whole ready.past s ready.matches.live b o n w p here (subst (λ (c : Cmd). FitsCommand ready.past c) is ready.fits) in
+          rw of (whole.0, whole.1, fill_below ready.past s ready.matches.live b o n w p k here (subst (λ (c : Cmd). k < length (pieces ready.past c)) is ready.below))
 
       pub fill_made : (new : Held) → HasRun s new (fill_piece b f k) → (past : Past) (ms : List ByteWrite) → MatchesLive past s → slice_get (pieces past y) k ≡ Some ms → HasRun s new ms
       fill_made new ran past ms m at =
@@ -165,8 +165,8 @@ module _ (s : Held) (y : Cmd) (k : ℕ) (ready : PieceReady s y k) where
     module _ (p : Placed) (here : flat s b ≡ Some p) (u : Update) (at : u.offset ≡ o) (same : u.bytes.now ≡ bytes) where
       pub update_may : (u.offset + length u.bytes.now ≤ p.size) × (4096 * k < length u.bytes.now)
       update_may = (
-        update_inside ready.past s ready.matches b o bytes u at same p here (subst (λ (c : Cmd). FitsCommand ready.past c) is ready.fits),
-        update_below ready.past s ready.matches b o bytes u at same k (subst (λ (c : Cmd). k < length (pieces ready.past c)) is ready.below),
+        update_inside ready.past s ready.matches.live b o bytes u at same p here (subst (λ (c : Cmd). FitsCommand ready.past c) is ready.fits),
+        update_below ready.past s ready.matches.live b o bytes u at same k (subst (λ (c : Cmd). k < length (pieces ready.past c)) is ready.below),
       )
 
       pub update_made : (new : Held) → HasRun s new (update_piece b u k) → (past : Past) (ms : List ByteWrite) → MatchesLive past s → slice_get (pieces past y) k ≡ Some ms → HasRun s new ms
@@ -183,7 +183,7 @@ module _ (s : Held) (y : Cmd) (k : ℕ) (ready : PieceReady s y k) where
     pub copy_may : (p q : Placed) → flat s a ≡ Some p → flat s b ≡ Some q → (regions : List BufferCopy) → regions ≡ gs → CopyReady p q regions k
     copy_may p q from to regions same =
         subst (λ (rs : List BufferCopy). CopyReady p q rs k) (sym same)
-        (copy_ready ready.past s ready.matches a b gs p q k from to (subst (λ (c : Cmd). FitsCommand ready.past c) is ready.fits) (subst (λ (c : Cmd). k < length (pieces ready.past c)) is ready.below))
+        (copy_ready ready.past s ready.matches.live a b gs p q k from to (subst (λ (c : Cmd). FitsCommand ready.past c) is ready.fits) (subst (λ (c : Cmd). k < length (pieces ready.past c)) is ready.below))
 
     pub copy_made : (new : Held) (regions : List BufferCopy) → regions ≡ gs → HasRun s new (copy_piece a b regions k) → (past : Past) (ms : List ByteWrite) → slice_get (pieces past y) k ≡ Some ms → HasRun s new ms
     copy_made new regions same ran past ms there =

@@ -27,11 +27,11 @@ use Rattle.vk_resources.specs.declared.applied.Applied.TheVariants as applied
 use Rattle.vk_resources.specs.declared.resources.Placed.{Placed}
 use Rattle.vk_resources.specs.Held.{Held, placed, placed_in, shape_of, shape_in, flat, is_cached_in, is_dirty, IsThere, HasCell, byte_at, seen_at, host_at}
 use Rattle.vk_resources.specs.Rest.{KeepsRest, is_dirty_at, is_changed_by, is_given_back}
-use Rattle.vk_resources.specs.Matches.{MatchesLive}
+use Rattle.vk_resources.specs.Matches.{MatchesLive, Stands}
 use Rattle.vk_resources.specs.Fits.{FitsEntry, FitsRange, FitsLength}
 use Rattle.vk_resources.specs.Done.{LeavesCells, DoneBy, TurnsOver}
 use Rattle.vk_resources.specs.Inner.Steps.{HasChanged, MayReach, MayReachTo, HasAtom, cached_at, is_of, changed_of}
-use Rattle.vk_resources.proofs.Matching.{placed_of_live, flat_parts, flat_from, matches_same, keeps_matches}
+use Rattle.vk_resources.proofs.Matching.{placed_of_live, flat_parts, flat_from, matches_same, keeps_matches, stands_on}
 use Rattle.vk_resources.proofs.Living.{live_same}
 use Rattle.vk_resources.proofs.Fitting.{same_size}
 use Rattle.vk_resources.proofs.Binding.{same_cached}
@@ -143,12 +143,12 @@ module _ (past : Past) (s : Held) (m : MatchesLive past s) (x : Entry) (b : ℕ)
 
 -- ---- a host write
 
-pub write_done : (old new : Held) (y : Entry) (b o : ℕ) (bytes : List ℕ) → y ≡ entry.Write b o bytes → HasChanged old new b (λ k. after_host_write (is_some (cached_at old b)) (given o bytes k)) → (e : ℕ) (past : Past) → MatchesLive past old → FitsEntry past y → DoneBy applied.Done e y past old new
+pub write_done : (old new : Held) (y : Entry) (b o : ℕ) (bytes : List ℕ) → y ≡ entry.Write b o bytes → HasChanged old new b (λ k. after_host_write (is_some (cached_at old b)) (given o bytes k)) → (e : ℕ) (past : Past) → Stands past old → FitsEntry past y → DoneBy applied.Done e y past old new
 write_done old new y b o bytes is wrote e past m fit = subst (λ (x : Entry). DoneBy applied.Done e x past old new) (sym is)
-    ((matches_same (live past) (live (host e (entry.Write b o bytes) ∷ past)) new (live_same past e (entry.Write b o bytes) refl refl) (keeps_matches (live past) old new wrote.0 m), leaves, none_new old new wrote.0.resources wrote.0.shapes), λ b o n h. absurd cc)
+    ((stands_on past e (entry.Write b o bytes) old new m (matches_same (live past) (live (host e (entry.Write b o bytes) ∷ past)) new (live_same past e (entry.Write b o bytes) refl refl) (keeps_matches (live past) old new wrote.0 m.live)), leaves, none_new old new wrote.0.resources wrote.0.shapes), λ b o n h. absurd cc)
   where
     there : (p : Placed) × (flat old b ≡ Some p)
-    there = let p = range_there past old m b o (length bytes) (subst (λ (x : Entry). FitsEntry past x) is fit) in (p.0, p.1)
+    there = let p = range_there past old m.live b o (length bytes) (subst (λ (x : Entry). FitsEntry past x) is fit) in (p.0, p.1)
 
     leaves : LeavesCells past (entry.Write b o bytes) old new
     leaves c cell at after has = subst (λ (y : Cell). HasCell new c y) (same c) (wrote.1 c cell at has)
@@ -163,7 +163,7 @@ write_done old new y b o bytes is wrote e past m fit = subst (λ (x : Entry). Do
 
         same : (c : Byte) → changed_of b (λ k. after_host_write (is_some (cached_at old b)) (given o bytes k)) c cell ≡ after_host_write (is_cached past b) (written b o bytes c) cell
         same (in_image i l a u v z) = unwritten (is_cached past b)
-        same (in_buffer c k) = rw (cached_is past old m b there.0 there.1) (by_buffer (is_cached past b) (b == c) k)
+        same (in_buffer c k) = rw (cached_is past old m.live b there.0 there.1) (by_buffer (is_cached past b) (b == c) k)
 
 -- ---- a flush and an invalidation
 
@@ -187,25 +187,25 @@ module _ (old new : Held) (b o : ℕ) (n : Length) (f : Cell → Cell) (changed 
       same (in_image i l a u v z) = by_image (is_cached past b)
       same (in_buffer c k) = rw (cached_is past old m b at.0 at.1) (by_buffer (is_cached past b) (b == c) (effect.in_atoms o n k))
 
-pub flush_done : (old new : Held) (y : Entry) (b o : ℕ) (n : Length) → y ≡ entry.Flush b o n → HasChanged old new b (only_where (λ k. is_some (cached_at old b) && effect.in_atoms o n k) (written_back 0)) → (e : ℕ) (past : Past) → MatchesLive past old → FitsEntry past y → DoneBy applied.Done e y past old new
+pub flush_done : (old new : Held) (y : Entry) (b o : ℕ) (n : Length) → y ≡ entry.Flush b o n → HasChanged old new b (only_where (λ k. is_some (cached_at old b) && effect.in_atoms o n k) (written_back 0)) → (e : ℕ) (past : Past) → Stands past old → FitsEntry past y → DoneBy applied.Done e y past old new
 flush_done old new y b o n is changed e past m fit =
     let fits : FitsLength (option_and_then buffer_in (live past b)) o n = subst (λ (x : Entry). FitsEntry past x) is fit in
     subst (λ (x : Entry). DoneBy applied.Done e x past old new) (sym is) (
       (
-        matches_same (live past) (live (host e (entry.Flush b o n) ∷ past)) new (live_same past e (entry.Flush b o n) refl refl) (keeps_matches (live past) old new changed.0 m),
-        λ c cell there after has. reached old new b o n (written_back 0) changed past m fits c cell there has,
+        stands_on past e (entry.Flush b o n) old new m (matches_same (live past) (live (host e (entry.Flush b o n) ∷ past)) new (live_same past e (entry.Flush b o n) refl refl) (keeps_matches (live past) old new changed.0 m.live)),
+        λ c cell there after has. reached old new b o n (written_back 0) changed past m.live fits c cell there has,
         none_new old new changed.0.resources changed.0.shapes,
       ),
       λ b o n h. absurd cc,
     )
 
-pub invalidate_done : (old new : Held) (y : Entry) (b o : ℕ) (n : Length) → y ≡ entry.Invalidate b o n → HasChanged old new b (only_where (λ k. is_some (cached_at old b) && effect.in_atoms o n k) (forgotten 0)) → (e : ℕ) (past : Past) → MatchesLive past old → FitsEntry past y → DoneBy applied.Done e y past old new
+pub invalidate_done : (old new : Held) (y : Entry) (b o : ℕ) (n : Length) → y ≡ entry.Invalidate b o n → HasChanged old new b (only_where (λ k. is_some (cached_at old b) && effect.in_atoms o n k) (forgotten 0)) → (e : ℕ) (past : Past) → Stands past old → FitsEntry past y → DoneBy applied.Done e y past old new
 invalidate_done old new y b o n is changed e past m fit =
     let fits : FitsLength (option_and_then buffer_in (live past b)) o n = subst (λ (x : Entry). FitsEntry past x) is fit in
     subst (λ (x : Entry). DoneBy applied.Done e x past old new) (sym is) (
       (
-        matches_same (live past) (live (host e (entry.Invalidate b o n) ∷ past)) new (live_same past e (entry.Invalidate b o n) refl refl) (keeps_matches (live past) old new changed.0 m),
-        λ c cell there after has. reached old new b o n (forgotten 0) changed past m fits c cell there has,
+        stands_on past e (entry.Invalidate b o n) old new m (matches_same (live past) (live (host e (entry.Invalidate b o n) ∷ past)) new (live_same past e (entry.Invalidate b o n) refl refl) (keeps_matches (live past) old new changed.0 m.live)),
+        λ c cell there after has. reached old new b o n (forgotten 0) changed past m.live fits c cell there has,
         none_new old new changed.0.resources changed.0.shapes,
       ),
       λ b o n h. absurd cc,
@@ -238,7 +238,7 @@ module _ (old new : Held) (b : ℕ) (change : ℕ → Cell → Cell) (changed : 
           let shape = ap (λ (l : List (ℕ × ImageInfo)). shape_in l (resource_at c)) changed.0.shapes in
           sym (leaves c cell there (there_stays old new c place shape there) (record { held = refl; region = refl })).region ∙ unchanged c cell refl none
 
-pub write_rest : (old new : Held) (y : Entry) (b o : ℕ) (bytes : List ℕ) → y ≡ entry.Write b o bytes → HasChanged old new b (λ k. after_host_write (is_some (cached_at old b)) (given o bytes k)) → (past : Past) → MatchesLive past old → FitsEntry past y → KeepsRest old new (is_changed_by old past y)
+pub write_rest : (old new : Held) (y : Entry) (b o : ℕ) (bytes : List ℕ) → y ≡ entry.Write b o bytes → HasChanged old new b (λ k. after_host_write (is_some (cached_at old b)) (given o bytes k)) → (past : Past) → Stands past old → FitsEntry past y → KeepsRest old new (is_changed_by old past y)
 write_rest old new y b o bytes is wrote past m fit =
     let x : Entry = entry.Write b o bytes in
     let fits : FitsEntry past x = subst (λ (z : Entry). FitsEntry past z) is fit in
@@ -251,7 +251,7 @@ write_rest old new y b o bytes is wrote past m fit =
     unwritten cell true (Some v) e = refl
     unwritten cell false (Some v) e = absurd cc
 
-pub flush_rest : (old new : Held) (y : Entry) (b o : ℕ) (n : Length) → y ≡ entry.Flush b o n → HasChanged old new b (only_where (λ k. is_some (cached_at old b) && effect.in_atoms o n k) (written_back 0)) → (past : Past) → MatchesLive past old → FitsEntry past y → KeepsRest old new (is_changed_by old past y)
+pub flush_rest : (old new : Held) (y : Entry) (b o : ℕ) (n : Length) → y ≡ entry.Flush b o n → HasChanged old new b (only_where (λ k. is_some (cached_at old b) && effect.in_atoms o n k) (written_back 0)) → (past : Past) → Stands past old → FitsEntry past y → KeepsRest old new (is_changed_by old past y)
 flush_rest old new y b o n is changed past m fit =
     let x : Entry = entry.Flush b o n in
     let fits : FitsEntry past x = subst (λ (z : Entry). FitsEntry past z) is fit in
@@ -263,7 +263,7 @@ flush_rest old new y b o n is changed past m fit =
     unflushed c cell held false e = refl
     unflushed c cell held true e = written_back_settles.still cell (ap is_dirty held ∙ e)
 
-pub invalidate_rest : (old new : Held) (y : Entry) (b o : ℕ) (n : Length) → y ≡ entry.Invalidate b o n → HasChanged old new b (only_where (λ k. is_some (cached_at old b) && effect.in_atoms o n k) (forgotten 0)) → (past : Past) → MatchesLive past old → FitsEntry past y → KeepsRest old new (is_changed_by old past y)
+pub invalidate_rest : (old new : Held) (y : Entry) (b o : ℕ) (n : Length) → y ≡ entry.Invalidate b o n → HasChanged old new b (only_where (λ k. is_some (cached_at old b) && effect.in_atoms o n k) (forgotten 0)) → (past : Past) → Stands past old → FitsEntry past y → KeepsRest old new (is_changed_by old past y)
 invalidate_rest old new y b o n is changed past m fit =
     let x : Entry = entry.Invalidate b o n in
     let fits : FitsEntry past x = subst (λ (z : Entry). FitsEntry past z) is fit in
@@ -277,10 +277,10 @@ invalidate_rest old new y b o n is changed past m fit =
 
 -- ---- a read
 
-pub read_done : (s : Held) (y : Entry) (b o n : ℕ) (bytes : List ℕ) → y ≡ entry.Read b o n → bytes ≡ map (λ k. seen_at s (in_buffer b (o + k))) (below n) → (e : ℕ) (past : Past) → MatchesLive past s → FitsEntry past y → DoneBy (applied.Bytes bytes) e y past s s
+pub read_done : (s : Held) (y : Entry) (b o n : ℕ) (bytes : List ℕ) → y ≡ entry.Read b o n → bytes ≡ map (λ k. seen_at s (in_buffer b (o + k))) (below n) → (e : ℕ) (past : Past) → Stands past s → FitsEntry past y → DoneBy (applied.Bytes bytes) e y past s s
 read_done s y b o n bytes is got e past m fit =
     subst (λ (x : Entry). DoneBy (applied.Bytes bytes) e x past s s) (sym is)
-    ((matches_same (live past) (live (host e (entry.Read b o n) ∷ past)) s (live_same past e (entry.Read b o n) refl refl) m, λ c cell there after has. has, none_new s s refl refl), got)
+    ((stands_on past e (entry.Read b o n) s s m (matches_same (live past) (live (host e (entry.Read b o n) ∷ past)) s (live_same past e (entry.Read b o n) refl refl) m.live), λ c cell there after has. has, none_new s s refl refl), got)
 
 -- the bytes that were copied are those that the host sees
 pub seen_bytes : (s : Held) (b o : ℕ) (p : Placed) (out : List ℕ) (n : ℕ) → flat s b ≡ Some p → o + n ≤ p.size → length out ≡ n

@@ -148,10 +148,10 @@ piece_named ps k ms is = rw (piece_in, is) refl
 module _ (s : Held) (y : Cmd) (k : ℕ) (ready : PieceReady s y k) where
   -- what it names is held
   picture_named : (c : Cmd) (i : ℕ) → y ≡ c → Contains (asked_by_command c) (i, is_image) → HasPicture s i
-  picture_named c i is named = named_picture ready.past s ready.matches i (subst (λ (c : Cmd). NamesLive ready.past c) is ready.alive i is_image named)
+  picture_named c i is named = named_picture ready.past s ready.matches.live i (subst (λ (c : Cmd). NamesLive ready.past c) is ready.alive i is_image named)
 
   buffer_named : (c : Cmd) (b : ℕ) → y ≡ c → Contains (asked_by_command c) (b, is_buffer) → IsSome (flat s b)
-  buffer_named c b is named = named_there ready.past s ready.matches b (subst (λ (c : Cmd). NamesLive ready.past c) is ready.alive b is_buffer named)
+  buffer_named c b is named = named_there ready.past s ready.matches.live b (subst (λ (c : Cmd). NamesLive ready.past c) is ready.alive b is_buffer named)
 
   fits_as : (c : Cmd) → y ≡ c → FitsCommand ready.past c
   fits_as c is = subst (λ (c : Cmd). FitsCommand ready.past c) is ready.fits
@@ -165,10 +165,10 @@ module _ (s : Held) (y : Cmd) (k : ℕ) (ready : PieceReady s y k) where
   piece_made new i has writes of_past run =
       let ran = run has.image has.is.shaped in
       record {
-        ran = λ past ms m fits at. subst (λ (xs : List ByteWrite). HaveRun xs (byte_at s) (byte_at new)) (same past ms m at) ran.1;
+        ran = λ past ms m fits at. subst (λ (xs : List ByteWrite). HaveRun xs (byte_at s) (byte_at new)) (same past ms m.live at) ran.1;
         keeps = ran.0;
         cache = ran.2;
-        rest = λ past ms m fits at. subst (λ (xs : List ByteWrite). KeepsRest s new (is_written xs)) (same past ms m at) ran.3;
+        rest = λ past ms m fits at. subst (λ (xs : List ByteWrite). KeepsRest s new (is_written xs)) (same past ms m.live at) ran.3;
       }
     where
       same : (past : Past) (ms : List ByteWrite) → MatchesLive past s → slice_get (pieces past y) k ≡ Some ms → piece_in (writes has.image) k ≡ ms
@@ -180,9 +180,9 @@ module _ (s : Held) (y : Cmd) (k : ℕ) (ready : PieceReady s y k) where
 
     pub clear_ready : ClearReady s i ranges k
     clear_ready =
-        let fits = clear_fits ready.past s ready.matches i l color rs cleared.image cleared.is.shaped (fits_as (cmd.Clear i l color rs) is) in
+        let fits = clear_fits ready.past s ready.matches.live i l color rs cleared.image cleared.is.shaped (fits_as (cmd.Clear i l color rs) is) in
         let count : length (pieces ready.past (cmd.Clear i l color rs)) ≡ sum_by (range_rows cleared.image) rs =
-        ap length (cleared_pieces ready.past i l color rs cleared.image (made_image ready.past s ready.matches i cleared.image cleared.is.shaped)) ∙ sym (clear_all_count i color cleared.image rs) in
+        ap length (cleared_pieces ready.past i l color rs cleared.image (made_image ready.past s ready.matches.live i cleared.image cleared.is.shaped)) ∙ sym (clear_all_count i color cleared.image rs) in
         subst (λ (xs : List SubresourceRange). ClearReady s i xs k) (sym same)
         (record { to = cleared; ranges = fits.0; piece = subst (λ (n : ℕ). k < n) count (below_as (cmd.Clear i l color rs) is) })
 
@@ -196,7 +196,7 @@ module _ (s : Held) (y : Cmd) (k : ℕ) (ready : PieceReady s y k) where
   regions_ready : (b i : ℕ) (q : Placed) (gs regions : List BufferImageCopy) (has : HasPicture s i) → flat s b ≡ Some q → FitsRegions (image ready.past i) (buffer_size ready.past b) gs → k < sum_by row_count gs → regions ≡ gs → RegionsReady s q.size i regions k
   regions_ready b i q gs regions has at fits lt same = subst (λ (xs : List BufferImageCopy). RegionsReady s q.size i xs k) (sym same) (record {
     with = has;
-    fits = subst (λ (z : ℕ). FitsRegions (Some has.image) z gs) (same_size ready.past s ready.matches b q at) (subst (λ (o : Option ImageInfo). FitsRegions o (buffer_size ready.past b) gs) (made_image ready.past s ready.matches i has.image has.is.shaped) fits);
+    fits = subst (λ (z : ℕ). FitsRegions (Some has.image) z gs) (same_size ready.past s ready.matches.live b q at) (subst (λ (o : Option ImageInfo). FitsRegions o (buffer_size ready.past b) gs) (made_image ready.past s ready.matches.live i has.image has.is.shaped) fits);
     piece = lt;
   })
 
@@ -209,7 +209,7 @@ module _ (s : Held) (y : Cmd) (k : ℕ) (ready : PieceReady s y k) where
 
     pub in_ready : (q : Placed) → flat s b ≡ Some q → RegionsReady s q.size i regions k
     in_ready q at =
-        let count : length (pieces ready.past (cmd.CopyIn b i l gs)) ≡ sum_by row_count gs = ap length (in_pieces ready.past b i l gs copied_to.image (made_image ready.past s ready.matches i copied_to.image copied_to.is.shaped)) ∙ sym (in_count b i copied_to.image gs) in
+        let count : length (pieces ready.past (cmd.CopyIn b i l gs)) ≡ sum_by row_count gs = ap length (in_pieces ready.past b i l gs copied_to.image (made_image ready.past s ready.matches.live i copied_to.image copied_to.is.shaped)) ∙ sym (in_count b i copied_to.image gs) in
         regions_ready b i q gs regions copied_to at (fits_as (cmd.CopyIn b i l gs) is) (subst (λ (n : ℕ). k < n) count (below_as (cmd.CopyIn b i l gs) is)) same
 
     pub in_made : (new : Held) → ((n : ImageInfo) → shape_of s i ≡ Some n → HasRun s new (piece_in (all_copied_in b i n regions) k)) → HasRunPiece s new y k
@@ -225,7 +225,7 @@ module _ (s : Held) (y : Cmd) (k : ℕ) (ready : PieceReady s y k) where
 
     pub out_ready : (q : Placed) → flat s b ≡ Some q → RegionsReady s q.size i regions k
     out_ready q at =
-        let count : length (pieces ready.past (cmd.CopyOut i l b gs)) ≡ sum_by row_count gs = ap length (out_pieces ready.past i b l gs copied_from.image (made_image ready.past s ready.matches i copied_from.image copied_from.is.shaped)) ∙ sym (out_count i b copied_from.image gs) in
+        let count : length (pieces ready.past (cmd.CopyOut i l b gs)) ≡ sum_by row_count gs = ap length (out_pieces ready.past i b l gs copied_from.image (made_image ready.past s ready.matches.live i copied_from.image copied_from.is.shaped)) ∙ sym (out_count i b copied_from.image gs) in
         regions_ready b i q gs regions copied_from at (fits_as (cmd.CopyOut i l b gs) is) (subst (λ (n : ℕ). k < n) count (below_as (cmd.CopyOut i l b gs) is)) same
 
     pub out_made : (new : Held) → ((n : ImageInfo) → shape_of s i ≡ Some n → HasRun s new (piece_in (all_copied_out i b n regions) k)) → HasRunPiece s new y k
@@ -243,12 +243,12 @@ module _ (s : Held) (y : Cmd) (k : ℕ) (ready : PieceReady s y k) where
 
     fits_both : FitsImages a b (Some read.image) (Some written.image) gs
     fits_both =
-        subst (λ (o : Option ImageInfo). FitsImages a b (Some read.image) o gs) (made_image ready.past s ready.matches b written.image written.is.shaped)
-        (subst (λ (o : Option ImageInfo). FitsImages a b o (image ready.past b) gs) (made_image ready.past s ready.matches a read.image read.is.shaped) (fits_as (cmd.CopyImage a l b t gs) is))
+        subst (λ (o : Option ImageInfo). FitsImages a b (Some read.image) o gs) (made_image ready.past s ready.matches.live b written.image written.is.shaped)
+        (subst (λ (o : Option ImageInfo). FitsImages a b o (image ready.past b) gs) (made_image ready.past s ready.matches.live a read.image read.is.shaped) (fits_as (cmd.CopyImage a l b t gs) is))
 
     pub images_below : k < sum_by copy_rows regions
     images_below =
-        let count : length (pieces ready.past (cmd.CopyImage a l b t gs)) ≡ sum_by copy_rows gs = ap length (image_pieces ready.past a b l t gs written.image (made_image ready.past s ready.matches b written.image written.is.shaped)) ∙ sym (image_count a b written.image gs) in
+        let count : length (pieces ready.past (cmd.CopyImage a l b t gs)) ≡ sum_by copy_rows gs = ap length (image_pieces ready.past a b l t gs written.image (made_image ready.past s ready.matches.live b written.image written.is.shaped)) ∙ sym (image_count a b written.image gs) in
         subst (λ (xs : List ImageCopy). k < sum_by copy_rows xs) (sym same) (subst (λ (n : ℕ). k < n) count (below_as (cmd.CopyImage a l b t gs) is))
 
     pub images_ready : (found : ImageCopyRow) → Contains regions found.region → found.number < found.region.layers * found.region.height → 0 < found.region.width → ImageRowReady s a b found.region found.number

@@ -22,7 +22,7 @@ use Rattle.vk_resources.specs.declared.applied.Applied.{Applied}
 use Rattle.vk_resources.specs.declared.applied.Applied.TheVariants as applied
 use Rattle.vk_resources.specs.declared.resources.Placed.{Placed}
 use Rattle.vk_resources.specs.Held.{Held, IsShaped, IsConsistent}
-use Rattle.vk_resources.specs.Matches.{MatchesLive}
+use Rattle.vk_resources.specs.Matches.{MatchesLive, Stands}
 use Rattle.vk_resources.specs.Fits.{FitsEntry, FitsPlace}
 use Rattle.vk_resources.specs.Done.{DoneBy}
 use Rattle.vk_resources.specs.Inner.Steps.{KeepsObjects, Makes, MemoryMade, ResourceMade, BindReady, Binds, SharedMade}
@@ -63,7 +63,7 @@ some_of law y i info is past fit = image_some law info (image_good y i info is p
 
 module _ (s new : Held) (y x : Entry) (is : y ≡ x) (i : ℕ) (r : Resource) (size : ℕ) (shape : Option ImageInfo) (creating : IsCreatingEntry x i r size shape) (fits : (past : Past) → FitsEntry past y → CreationFits past i r size shape) (consistent : IsConsistent s) where
   module _ (t : ℕ) (own : r.place ≡ place.Dedicated t) (a : Applied) (made : ResourceMade a s new i t size r.size shape) where
-    pub own_done : (e : ℕ) (past : Past) → MatchesLive past s → FitsEntry past y → DoneBy a e y past s new
+    pub own_done : (e : ℕ) (past : Past) → Stands past s → FitsEntry past y → DoneBy a e y past s new
     own_done e past m fit = subst (λ (z : Entry). DoneBy a e z past s new) (sym is) (resource_done s new x i r size shape creating t own consistent a made e past m (fits past fit).unused)
 
   module _ (k o : ℕ) (at : r.place ≡ place.Memory k o) where
@@ -71,10 +71,10 @@ module _ (s new : Held) (y x : Entry) (is : y ≡ x) (i : ℕ) (r : Resource) (s
     may_bind past m fit = binds_ready s past m i r size shape (fits past fit) k o at consistent
 
     module _ (binds : Binds s new i k o size shape) where
-      pub bind_done : (e : ℕ) (past : Past) → MatchesLive past s → FitsEntry past y → DoneBy applied.Done e y past s new
+      pub bind_done : (e : ℕ) (past : Past) → Stands past s → FitsEntry past y → DoneBy applied.Done e y past s new
       bind_done e past m fit =
           subst (λ (z : Entry). DoneBy applied.Done e z past s new) (sym is)
-          (bound_done s new x i r size shape creating k o at consistent (may_bind past m fit) binds e past m (fits past fit).unused (subst (λ (q : Place). FitsPlace past r q) at (fits past fit).place))
+          (bound_done s new x i r size shape creating k o at consistent (may_bind past m.live fit) binds e past m (fits past fit).unused (subst (λ (q : Place). FitsPlace past r q) at (fits past fit).place))
 
 -- what was made by the size that was asked, and of the shape that was given
 pub made_as : (a : Applied) (s new : Held) (i t n : ℕ) (shape info : ImageInfo) → n ≡ image_size info info.tiling → shape ≡ info → ResourceMade a s new i t n n (Some shape) → ResourceMade a s new i t (image_size info info.tiling) (of_image info).size (Some info)

@@ -1,5 +1,5 @@
 -- What is held is what is live, as long as only bytes change.
-use Rattle.std.proofs.Common.{◌≡◌, ◌⊎◌, inl, inr, ◌∙◌, ℕ, ◌≤◌, List, true, false, refl, arith, ap, sym, subst, Option, Some, None}
+use Rattle.std.proofs.Common.{◌≡◌, ◌⊎◌, inl, inr, ◌∙◌, ℕ, ◌≤◌, List, ◌∷◌, true, false, refl, arith, ap, sym, subst, Option, Some, None}
 use Rattle.std.specs.Prelude.{IsTrue, is_some, option_map, option_and_then}
 use Rattle.vk_model.specs.declared.entry.Entry.{Entry}
 use Rattle.vk_model.specs.declared.entry.Entry.TheVariants as entry
@@ -12,10 +12,12 @@ use Rattle.vk_backing.specs.Backed as backing
 use Rattle.vk_backing.specs.Backed.{Backed, allocation_of, info_by, IsWhole}
 use Rattle.vk_resources.specs.Held.{Held, placed, placed_in, shape_in, shape_of, flat, flat_in, object_of, LiesShared}
 use Rattle.vk_model.specs.Basics.{holds}
-use Rattle.vk_model.specs.Trace.Objects.{Resource, of_buffer, of_image, buffer_in, image_in, resource_in, memory_in, pool_in}
+use Rattle.vk_model.specs.Trace.Point.{Past}
+use Rattle.vk_model.specs.Trace.Order.{host}
+use Rattle.vk_model.specs.Trace.Objects.{Resource, of_buffer, of_image, live, buffer_in, image_in, resource_in, memory_in, pool_in}
 use Rattle.vk_model.specs.Rules.Ids.{is_memory}
 use Rattle.vk_model.specs.Trace.Image.{image_size}
-use Rattle.vk_resources.specs.Matches.{Matches, LiesAt, LiesOf, size_made, has_memory, type_made, in_pool}
+use Rattle.vk_resources.specs.Matches.{Matches, MatchesLive, Stands, LiesAt, LiesOf, size_made, has_memory, type_made, in_pool}
 use Rattle.vk_backing.specs.Allotted.{Allotted}
 use Rattle.vk_resources.specs.Inner.Steps.{KeepsPlaces}
 
@@ -77,6 +79,15 @@ matches_same alive alive' s same m = record {
   pooled = λ i a has. subst (λ (x : Option Entry). IsTrue (holds x in_pool)) (sym (same i)) (m.pooled i a has);
   whole = m.whole;
 }
+
+-- ---- what is held stands
+
+pub keeps_stands : (past : Past) (old new : Held) → KeepsPlaces old new → Stands past old → Stands past new
+keeps_stands past old new keeps m = record { live = keeps_matches (live past) old new keeps m.live }
+
+-- after an entry, by what is live then
+pub stands_on : (past : Past) (e : ℕ) (x : Entry) (old new : Held) → Stands past old → MatchesLive (host e x ∷ past) new → Stands (host e x ∷ past) new
+stands_on past e x old new m now = record { live = now }
 
 -- ---- what is held is live
 

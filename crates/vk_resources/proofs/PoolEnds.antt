@@ -26,11 +26,11 @@ use Rattle.vk_backing.specs.Steps.{IsUnused}
 use Rattle.vk_resources.specs.declared.applied.Applied.TheVariants as applied
 use Rattle.vk_resources.specs.declared.resources.Placed.{Placed}
 use Rattle.vk_resources.specs.Held.{Held, IsConsistent, placed, placed_in, shape_in, shape_of, object_of}
-use Rattle.vk_resources.specs.Matches.{Matches, MatchesLive, LiesAt, LiesOf, in_pool, has_memory, size_made, type_made}
+use Rattle.vk_resources.specs.Matches.{Matches, MatchesLive, Stands, LiesAt, LiesOf, in_pool, has_memory, size_made, type_made}
 use Rattle.vk_resources.specs.Fits.{FitsEntry, is_populated}
 use Rattle.vk_resources.specs.Done.{DoneBy}
 use Rattle.vk_resources.specs.Inner.Steps.{PoolDropped}
-use Rattle.vk_resources.proofs.Matching.{is_live, some_sized}
+use Rattle.vk_resources.proofs.Matching.{is_live, some_sized, stands_on}
 use Rattle.vk_resources.proofs.Living.{live_end}
 use Rattle.vk_resources.proofs.Binding.{none_passes, resource_is}
 use Rattle.vk_resources.proofs.Applying.{pool_keeps, none_new}
@@ -83,7 +83,10 @@ numbered s b a by = go (allocation_of s.backed b) refl by
     go None e h = absurd cc
     go (Some n) e h = (n, e, h)
 
-module _ (s : Held) (past : Past) (m : MatchesLive past s) (consistent : IsConsistent s) (i : ℕ) (free : is_populated past i ≡ false) where
+module _ (s : Held) (past : Past) (stands : Stands past s) (consistent : IsConsistent s) (i : ℕ) (free : is_populated past i ≡ false) where
+  m : MatchesLive past s
+  m = stands.live
+
   -- a live resource lies in another pool
   other_pool : (b : ℕ) (y : Entry) (r : Resource) (q : ℕ) → live past b ≡ Some y → resource_in y ≡ Some r → pool_at r.place ≡ Some q → q ≡ i → ⊥
   other_pool b y r q alive is at same =
@@ -184,7 +187,7 @@ module _ (s : Held) (past : Past) (m : MatchesLive past s) (consistent : IsConsi
     pub dropped_done : DoneBy applied.Done e (entry.DropPool i) past s new
     dropped_done = (
       (
-        matches,
+        stands_on past e (entry.DropPool i) s new stands matches,
         λ c cell there after has. same_cells s new dropped.memory dropped.resources dropped.shapes dropped.cache c cell has,
         none_new s new dropped.resources dropped.shapes,
       ),
@@ -193,7 +196,7 @@ module _ (s : Held) (past : Past) (m : MatchesLive past s) (consistent : IsConsi
 
 -- ---- as it is asked for and done
 
-module _ (s : Held) (y : Entry) (i : ℕ) (is : y ≡ entry.DropPool i) (past : Past) (m : MatchesLive past s) (fit : FitsEntry past y) (consistent : IsConsistent s) where
+module _ (s : Held) (y : Entry) (i : ℕ) (is : y ≡ entry.DropPool i) (past : Past) (m : Stands past s) (fit : FitsEntry past y) (consistent : IsConsistent s) where
   fits : FitsEntry past (entry.DropPool i)
   fits = subst (λ (x : Entry). FitsEntry past x) is fit
 

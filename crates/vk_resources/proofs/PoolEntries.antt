@@ -20,11 +20,11 @@ use Rattle.vk_backing.specs.Backed.{number_in, pool_of, allocation_of, info_by, 
 use Rattle.vk_resources.specs.declared.applied.Applied.TheVariants as applied
 use Rattle.vk_resources.specs.declared.resources.Placed.{Placed}
 use Rattle.vk_resources.specs.Held.{Held, IsConsistent, placed, placed_in, shape_in, shape_of, object_of, HasCell}
-use Rattle.vk_resources.specs.Matches.{MatchesLive, has_memory, size_made}
+use Rattle.vk_resources.specs.Matches.{MatchesLive, Stands, has_memory, size_made}
 use Rattle.vk_resources.specs.Fits.{IsUnused, FitsEntry}
 use Rattle.vk_resources.specs.Done.{DoneBy}
 use Rattle.vk_resources.specs.Inner.Steps.{PoolMade}
-use Rattle.vk_resources.proofs.Matching.{unplaced, unowned}
+use Rattle.vk_resources.proofs.Matching.{unplaced, unowned, stands_on}
 use Rattle.vk_resources.proofs.Living.{live_new, not_live, Grows, grown}
 use Rattle.vk_resources.proofs.Applying.{pool_keeps, no_info, no_allocation, none_new}
 
@@ -75,12 +75,12 @@ module _ (old new : Held) (y : Entry) (i : ℕ) (info : PoolInfo) (is : y ≡ en
           let some : info_by old.backed r ≡ Some k.0.pool.info = ap (λ (o : Option ℕ). option_map (λ (k : Kept). k.pool.info) (option_and_then (pools.pool_at old.backed.pools) o)) has ∙ ap (λ (o : Option Kept). option_map (λ (k : Kept). k.pool.info) o) k.1 in
           let both : None ≡ Some k.0.pool.info = sym (no_info past old i m unused) ∙ ap (λ (j : ℕ). info_by old.backed j) (sym same) ∙ some in cc)
 
-  pub pool_done : (e : ℕ) (past : Past) → MatchesLive past old → FitsEntry past y → DoneBy applied.Done e y past old new
+  pub pool_done : (e : ℕ) (past : Past) → Stands past old → FitsEntry past y → DoneBy applied.Done e y past old new
   pool_done e past m fit =
       let unused = (subst (λ (x : Entry). FitsEntry past x) is fit).0 in
       subst (λ (x : Entry). DoneBy applied.Done e x past old new) (sym is) (
         (
-          grown (live past) (live (host e (entry.Pool i info) ∷ past)) old new i (entry.Pool i info) (pool_grows past e m unused) m,
+          stands_on past e (entry.Pool i info) old new m (grown (live past) (live (host e (entry.Pool i info) ∷ past)) old new i (entry.Pool i info) (pool_grows past e m.live unused) m.live),
           λ c cell there after has. same_cells old new made.memory made.resources made.shapes made.cache c cell has,
           none_new old new made.resources made.shapes,
         ),

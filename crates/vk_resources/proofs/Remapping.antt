@@ -21,13 +21,13 @@ use Rattle.vk_resources.specs.declared.applied.Applied.TheVariants as applied
 use Rattle.vk_resources.specs.declared.resources.Placed.{Placed}
 use Rattle.vk_resources.specs.Allocating.{allotted, NoRoomIsExact, Allots}
 use Rattle.vk_resources.specs.Held.{Held, IsConsistent, IsInside, HasCell, placed, placed_in, shape_of, shape_in, object_of}
-use Rattle.vk_resources.specs.Matches.{Matches, MatchesLive}
+use Rattle.vk_resources.specs.Matches.{Matches, Stands}
 use Rattle.vk_resources.specs.Done.{DoneBy, Goes, ReadsNothing}
 use Rattle.vk_resources.specs.Rest.{KeepsRest}
 use Rattle.vk_resources.specs.Inner.Steps.{Remaps}
 use Rattle.vk_resources.specs.Counted.{Counts, bound_in, bound_of, mapped_at}
 use Rattle.vk_resources.proofs.CachedBytes.{caching_typed}
-use Rattle.vk_resources.proofs.Matching.{home, lies_on, matches_same}
+use Rattle.vk_resources.proofs.Matching.{home, lies_on, matches_same, stands_on}
 use Rattle.vk_resources.proofs.Living.{live_same}
 use Rattle.vk_resources.proofs.Applying.{none_new, pool_keeps, same_host, stays}
 
@@ -148,17 +148,17 @@ module _ (old new : Held) (id : ℕ) (change : ℕ → ℕ) (v : Bool) (remaps :
   -- ---- as it is asked for and done
 
   module _ (y : Entry) (none_made : made_by y ≡ None) (none_ended : ended_by y ≡ []) (keeps : (past : Past) (c : Byte) (cell : Cell) → after_host past [] y c cell ≡ cell) (reads : ReadsNothing y) where
-    goes : (past : Past) (e : ℕ) → MatchesLive past old → Goes e y past old new
+    goes : (past : Past) (e : ℕ) → Stands past old → Goes e y past old new
     goes past e m = (
-      matches_same (live past) (live (host e y ∷ past)) new (live_same past e y none_made none_ended) (remapped_matches (live past) m),
+      stands_on past e y old new m (matches_same (live past) (live (host e y ∷ past)) new (live_same past e y none_made none_ended) (remapped_matches (live past) m.live)),
       λ c cell there after has. subst (λ (x : Cell). HasCell new c x) (sym (keeps past c cell)) (cells c cell has),
       none_new old new remaps.resources remaps.shapes,
     )
 
-  pub map_done : (y : Entry) (b : ℕ) → y ≡ entry.Map b → (e : ℕ) (past : Past) → MatchesLive past old → DoneBy applied.Done e y past old new
+  pub map_done : (y : Entry) (b : ℕ) → y ≡ entry.Map b → (e : ℕ) (past : Past) → Stands past old → DoneBy applied.Done e y past old new
   map_done y b is e past m = subst (λ (x : Entry). DoneBy applied.Done e x past old new) (sym is) (goes (entry.Map b) refl refl (λ past c cell. refl) (λ b o n h. absurd cc) past e m, λ b o n h. absurd cc)
 
-  pub unmap_done : (y : Entry) (b : ℕ) → y ≡ entry.Unmap b → (e : ℕ) (past : Past) → MatchesLive past old → DoneBy applied.Done e y past old new
+  pub unmap_done : (y : Entry) (b : ℕ) → y ≡ entry.Unmap b → (e : ℕ) (past : Past) → Stands past old → DoneBy applied.Done e y past old new
   unmap_done y b is e past m = subst (λ (x : Entry). DoneBy applied.Done e x past old new) (sym is) (goes (entry.Unmap b) refl refl (λ past c cell. refl) (λ b o n h. absurd cc) past e m, λ b o n h. absurd cc)
 
   pub map_rooms : (y : Entry) (b : ℕ) → y ≡ entry.Map b → NoRoomIsExact applied.Done old y

@@ -14,10 +14,10 @@ use Rattle.vk_model.specs.World.Bytes.{Byte}
 use Rattle.vk_resources.specs.declared.applied.Applied.TheVariants as applied
 use Rattle.vk_resources.specs.declared.resources.Placed.{Placed}
 use Rattle.vk_resources.specs.Held.{Held, object_of, HasCell}
-use Rattle.vk_resources.specs.Matches.{MatchesLive, in_pool, size_made, has_memory}
+use Rattle.vk_resources.specs.Matches.{MatchesLive, Stands, in_pool, size_made, has_memory}
 use Rattle.vk_resources.specs.Fits.{IsUnused, FitsEntry}
 use Rattle.vk_resources.specs.Done.{DoneBy}
-use Rattle.vk_resources.proofs.Matching.{unplaced, unowned, unshared, matches_same}
+use Rattle.vk_resources.proofs.Matching.{unplaced, unowned, unshared, matches_same, stands_on}
 use Rattle.vk_resources.proofs.Living.{live_new, live_same, not_live, grown}
 use Rattle.vk_resources.proofs.Applying.{none_new}
 
@@ -79,12 +79,12 @@ queue_drops s q c cell has = go (cell.held (suc q))
     go (Some (caches.Clean v)) = record { held = ap (λ (t : Bool). if t then None else cell.held 0) (false_from_ne_true (0 == suc q) (λ h. let e = eqb-true 0 (suc q) h in omega (arith, e))) ∙ has.held; region = has.region }
     go (Some (caches.Dirty v)) = has
 
-pub rest_done : (s : Held) (y : Entry) → IsRest y → (e : ℕ) (past : Past) → MatchesLive past s → FitsEntry past y → DoneBy applied.Done e y past s s
-rest_done s (entry.Semaphore i v) rest e past m fit = ((other_goes s past e i (entry.Semaphore i v) refl refl refl refl refl refl refl refl fit m, λ c cell there after has. has, none_new s s refl refl), λ b o n h. absurd cc)
-rest_done s (entry.Event i) rest e past m fit = ((other_goes s past e i (entry.Event i) refl refl refl refl refl refl refl refl fit m, λ c cell there after has. has, none_new s s refl refl), λ b o n h. absurd cc)
-rest_done s (entry.Signal v n) rest e past m fit = ((matches_same (live past) (live (host e (entry.Signal v n) ∷ past)) s (live_same past e (entry.Signal v n) refl refl) m, λ c cell there after has. has, none_new s s refl refl), λ b o n h. absurd cc)
-rest_done s (entry.Wait ws) rest e past m fit = ((matches_same (live past) (live (host e (entry.Wait ws) ∷ past)) s (live_same past e (entry.Wait ws) refl refl) m, λ c cell there after has. has, none_new s s refl refl), λ b o n h. absurd cc)
-rest_done s (entry.Submit q bs) rest e past m fit = ((matches_same (live past) (live (host e (entry.Submit q bs) ∷ past)) s (live_same past e (entry.Submit q bs) refl refl) m, λ c cell there after has. queue_drops s q c cell has, none_new s s refl refl), λ b o n h. absurd cc)
+pub rest_done : (s : Held) (y : Entry) → IsRest y → (e : ℕ) (past : Past) → Stands past s → FitsEntry past y → DoneBy applied.Done e y past s s
+rest_done s (entry.Semaphore i v) rest e past m fit = ((stands_on past e (entry.Semaphore i v) s s m (other_goes s past e i (entry.Semaphore i v) refl refl refl refl refl refl refl refl fit m.live), λ c cell there after has. has, none_new s s refl refl), λ b o n h. absurd cc)
+rest_done s (entry.Event i) rest e past m fit = ((stands_on past e (entry.Event i) s s m (other_goes s past e i (entry.Event i) refl refl refl refl refl refl refl refl fit m.live), λ c cell there after has. has, none_new s s refl refl), λ b o n h. absurd cc)
+rest_done s (entry.Signal v n) rest e past m fit = ((stands_on past e (entry.Signal v n) s s m (matches_same (live past) (live (host e (entry.Signal v n) ∷ past)) s (live_same past e (entry.Signal v n) refl refl) m.live), λ c cell there after has. has, none_new s s refl refl), λ b o n h. absurd cc)
+rest_done s (entry.Wait ws) rest e past m fit = ((stands_on past e (entry.Wait ws) s s m (matches_same (live past) (live (host e (entry.Wait ws) ∷ past)) s (live_same past e (entry.Wait ws) refl refl) m.live), λ c cell there after has. has, none_new s s refl refl), λ b o n h. absurd cc)
+rest_done s (entry.Submit q bs) rest e past m fit = ((stands_on past e (entry.Submit q bs) s s m (matches_same (live past) (live (host e (entry.Submit q bs) ∷ past)) s (live_same past e (entry.Submit q bs) refl refl) m.live), λ c cell there after has. queue_drops s q c cell has, none_new s s refl refl), λ b o n h. absurd cc)
 rest_done s (entry.Memory i info) rest e past m fit = absurd rest
 rest_done s (entry.Buffer i info) rest e past m fit = absurd rest
 rest_done s (entry.Image i info) rest e past m fit = absurd rest

@@ -27,7 +27,7 @@ use Rattle.vk_resources.specs.declared.applied.Applied.TheVariants as applied
 use Rattle.vk_resources.specs.declared.resources.Placed.{Placed}
 use Rattle.vk_resources.specs.Allocating.{allotted, NoRoomIsExact, Allots}
 use Rattle.vk_resources.specs.Held.{Held, IsConsistent, placed, placed_in, shape_in, shape_of, object_of}
-use Rattle.vk_resources.specs.Matches.{MatchesLive, LiesAt, LiesOf, is_own, has_memory, size_made, type_of_place}
+use Rattle.vk_resources.specs.Matches.{MatchesLive, Stands, LiesAt, LiesOf, is_own, has_memory, size_made, type_of_place}
 use Rattle.vk_resources.specs.Fits.{IsUnused}
 use Rattle.vk_resources.specs.Done.{DoneBy}
 use Rattle.vk_resources.specs.Inner.Steps.{Puts, PutReady, PutIn, SharedMade, FoundOr, ShapeReady, LiesElsewhere, IsEmpty}
@@ -140,7 +140,7 @@ module _ (old new : Held) (x : Entry) (i : ℕ) (r : Resource) (size : ℕ) (sha
   lies_of alive s p false l = l
   lies_of alive s p true l = l
 
-  pub shared_done : IsConsistent old → (a : Applied) → SharedMade a old new i pool size asked upper shape → size ≤ asked.size → (e : ℕ) (past : Past) → MatchesLive past old → IsUnused past i → DoneBy a e x past old new
+  pub shared_done : IsConsistent old → (a : Applied) → SharedMade a old new i pool size asked upper shape → size ≤ asked.size → (e : ℕ) (past : Past) → Stands past old → IsUnused past i → DoneBy a e x past old new
   shared_done consistent a made fits e past m unused = go a made
     where
       go : (a : Applied) → SharedMade a old new i pool size asked upper shape → DoneBy a e x past old new
@@ -150,7 +150,7 @@ module _ (old new : Held) (x : Entry) (i : ℕ) (r : Resource) (size : ℕ) (sha
           let spot = made.0 in let put = made.1 in let shares = put.shares in
           let p : Placed = record { size = size; object = spot.memory; offset = spot.offset } in
           let objects : (j : ℕ) → object_of new j ≡ object_of old j = λ j. ap (λ (os : List (ℕ × Own)). object_in os j) shares.owned in
-          let none_own : object_of old i ≡ None = unowned (live past) old i m (ap (λ (o : Option Entry). holds o has_memory) (not_live past i unused)) in
+          let none_own : object_of old i ≡ None = unowned (live past) old i m.live (ap (λ (o : Option Entry). holds o has_memory) (not_live past i unused)) in
           let object : is_some (object_of new i) ≡ is_own r.place = ap is_some (objects i ∙ none_own) ∙ sym (ap is_own at ∙ not_own upper) in
           let numbers : (q : ℕ) → pool_of new.backed q ≡ pool_of old.backed q = λ q. ap (λ (ns : List (ℕ × ℕ)). number_in ns q) shares.numbers in
           let kind = (spot_object new.backed new.memory put.backed i shares.number spot shares.lies).kind in
@@ -158,7 +158,7 @@ module _ (old new : Held) (x : Entry) (i : ℕ) (r : Resource) (size : ℕ) (sha
           let regions : (number : ℕ) → IsLive old.memory number → region_of new.memory number ≡ region_of old.memory number = λ number lives. ap bytes_of (grown_object old.memory new.memory put.grows number lives) in
           let types : (number : ℕ) → IsLive old.memory number → type_of new.memory number ≡ type_of old.memory number = λ number lives. ap type_in (grown_object old.memory new.memory put.grows number lives) in
           let pools : PoolsGrow old new i x = record {
-            info = shares.infos i ∙ no_info past old i m unused;
+            info = shares.infos i ∙ no_info past old i m.live unused;
             infos = shares.infos;
             pooled = λ a has. creating.shares ∙ ap (λ (q : Place). is_some (pool_at q)) at ∙ in_one upper;
             allocations = shares.others;
@@ -174,9 +174,9 @@ module _ (old new : Held) (x : Entry) (i : ℕ) (r : Resource) (size : ℕ) (sha
           bare spot put p types k lt held =
               let w = consistent.1.only spot.memory (spot.offset + k) held in
               let inside = inside_of old.memory old.backed old.resources consistent.0 w.id w.place w.here in
-              let absent : placed old i ≡ None = unplaced (live past) old i m (ap (option_and_then size_made) (not_live past i unused)) in
+              let absent : placed old i ≡ None = unplaced (live past) old i m.live (ap (option_and_then size_made) (not_live past i unused)) in
               let ne : w.id ≡ i → ⊥ = λ (same : w.id ≡ i). (let both : Some w.place ≡ None = sym w.here ∙ ap (λ (j : ℕ). placed old j) same ∙ absent in cc) in
-              let beside = spot_beside old new.backed new.memory put.backed i pool asked upper spot put.shares size fits w.id w.place ne (all_elsewhere past old i m unused w.id w.place ne w.here) w.object in
+              let beside = spot_beside old new.backed new.memory put.backed i pool asked upper spot put.shares size fits w.id w.place ne (all_elsewhere past old i m.live unused w.id w.place ne w.here) w.object in
               let cached : type_of new.memory spot.memory ≡ 2 = ap (λ (n : ℕ). type_of new.memory n) (sym w.object) ∙ types w.place.object inside.live ∙ eqb-true (type_of old.memory w.place.object) 2 w.cached in
               clear_atoms w.place (record { size = size; object = spot.memory; offset = spot.offset }) k (consistent.1.aligned w.id w.place w.here w.cached)
               (spot_aligned old new.backed new.memory put.backed i pool asked upper spot put.shares size fits cached) inside.some (turned spot.offset w.place.offset size w.place.size beside) lt w.atom

@@ -76,3 +76,7 @@ module _ (alive : ℕ → Option Entry) (s : Held) where
 -- What is held is what is live after these points (Vulkan, "Object Lifetime").
 abbrev pub MatchesLive : Past → Held → Type 0
 MatchesLive past s = Matches (live past) s
+
+-- What is held stands where it is what is live after these points (Vulkan, "Object Lifetime").
+pub record Stands (past : Past) (s : Held) : Type 0 where
+  pub live : MatchesLive past s

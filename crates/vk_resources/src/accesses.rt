@@ -14,7 +14,7 @@ use vk_model::{Entry, Sequence};
 impl Resources {
     ghost use Rattle.vk_resources.specs.Held.{flat, seen_at};
     ghost use Rattle.vk_resources.specs.Rest.{KeepsRest, is_changed_by};
-    ghost use Rattle.vk_resources.specs.Matches.{MatchesLive};
+    ghost use Rattle.vk_resources.specs.Matches.{Stands};
     ghost use Rattle.vk_resources.specs.Allocating.{NoRoomIsExact, Allots};
     ghost use Rattle.vk_resources.specs.Fits.{FitsEntry};
     ghost use Rattle.vk_resources.specs.Counted.{Counts};
@@ -60,11 +60,11 @@ impl Resources {
     pub(crate) fn access(&mut self, entry: &Entry) -> Result<Applied, AllocError>
         requires ready { EntryReady self.old entry.now }
         requires access { IsTrue (is_access entry.now) }
-        ensures done { IfOk result (λ a. (e : ℕ) (past : Past) → MatchesLive past self.old → FitsEntry past entry.now → DoneBy a e entry.now past self.old self.new) }
+        ensures done { IfOk result (λ a. (e : ℕ) (past : Past) → Stands past self.old → FitsEntry past entry.now → DoneBy a e entry.now past self.old self.new) }
         ensures rooms { IfOk result (λ a. (past : Past) → FitsEntry past entry.now → NoRoomIsExact a self.old entry.now) }
-        ensures allots { IfOk result (λ a. (past : Past) → MatchesLive past self.old → FitsEntry past entry.now → Allots a entry.now self.old self.new) }
+        ensures allots { IfOk result (λ a. (past : Past) → Stands past self.old → FitsEntry past entry.now → Allots a entry.now self.old self.new) }
         ensures counts { OnOk result (Counts entry.now self.old self.new) }
-        ensures rest { OnOk result ((past : Past) → MatchesLive past self.old → FitsEntry past entry.now → KeepsRest self.old self.new (is_changed_by self.old past entry.now)) }
+        ensures rest { OnOk result ((past : Past) → Stands past self.old → FitsEntry past entry.now → KeepsRest self.old self.new (is_changed_by self.old past entry.now)) }
     {
         match entry {
             Entry::Write {
@@ -91,11 +91,11 @@ impl Resources {
     pub(crate) fn flush_or_invalidate(&mut self, entry: &Entry) -> Result<Applied, AllocError>
         requires ready { EntryReady self.old entry.now }
         requires flush { IsTrue (is_flush entry.now) }
-        ensures done { IfOk result (λ a. (e : ℕ) (past : Past) → MatchesLive past self.old → FitsEntry past entry.now → DoneBy a e entry.now past self.old self.new) }
+        ensures done { IfOk result (λ a. (e : ℕ) (past : Past) → Stands past self.old → FitsEntry past entry.now → DoneBy a e entry.now past self.old self.new) }
         ensures rooms { IfOk result (λ a. (past : Past) → FitsEntry past entry.now → NoRoomIsExact a self.old entry.now) }
-        ensures allots { IfOk result (λ a. (past : Past) → MatchesLive past self.old → FitsEntry past entry.now → Allots a entry.now self.old self.new) }
+        ensures allots { IfOk result (λ a. (past : Past) → Stands past self.old → FitsEntry past entry.now → Allots a entry.now self.old self.new) }
         ensures counts { OnOk result (Counts entry.now self.old self.new) }
-        ensures rest { OnOk result ((past : Past) → MatchesLive past self.old → FitsEntry past entry.now → KeepsRest self.old self.new (is_changed_by self.old past entry.now)) }
+        ensures rest { OnOk result ((past : Past) → Stands past self.old → FitsEntry past entry.now → KeepsRest self.old self.new (is_changed_by self.old past entry.now)) }
     {
         match entry {
             Entry::Flush {

@@ -52,7 +52,7 @@ fn atoms_in(size: u64) -> u64
 impl Resources {
     ghost use Rattle.vk_resources.specs.Held.{shape_of, flat, seen_at, IsConsistent};
     ghost use Rattle.vk_resources.specs.Rest.{KeepsRest, is_given_back};
-    ghost use Rattle.vk_resources.specs.Matches.{MatchesLive};
+    ghost use Rattle.vk_resources.specs.Matches.{Stands};
     ghost use Rattle.vk_resources.specs.Allocating.{allotted};
     ghost use Rattle.vk_resources.specs.Fits.{FitsEntry};
     ghost use Rattle.vk_resources.specs.Done.{AtomReady, TurnsOver};
@@ -140,7 +140,7 @@ impl Resources {
     /// How many atoms the buffer has in cached memory that the host accesses by an entry; none where it
     /// accesses no such buffer.
     pub fn atoms(&self, entry: &Entry) -> u64
-        ensures { (past : Past) → MatchesLive past self.now → FitsEntry past entry.now → result ≡ atom_count past entry.now }
+        ensures { (past : Past) → Stands past self.now → FitsEntry past entry.now → result ≡ atom_count past entry.now }
     {
         match accessed(entry) {
             Some(buffer) => match self.cached(buffer) {
@@ -160,7 +160,7 @@ impl Resources {
         requires { AtomReady self.old entry.now atom }
         ensures turned { OnOk result (TurnsOver entry.now atom self.old self.new) }
         ensures rest { OnOk result (KeepsRest self.old self.new (is_given_back self.old entry.now atom)) }
-        ensures matches { (past : Past) → MatchesLive past self.old → MatchesLive past self.new }
+        ensures matches { (past : Past) → Stands past self.old → Stands past self.new }
         ensures placed { self.new.resources ≡ self.old.resources }
         ensures shapes { self.new.shapes ≡ self.old.shapes }
         ensures allotted { allotted self.new ≡ allotted self.old }

@@ -19,7 +19,7 @@ const WHOLE_OBJECT: u64 = 1 << 63;
 impl Resources {
     ghost use Rattle.vk_resources.specs.Held.{placed, shape_of, object_of, IsConsistent};
     ghost use Rattle.vk_resources.specs.Rest.{KeepsRest, is_changed_by};
-    ghost use Rattle.vk_resources.specs.Matches.{MatchesLive};
+    ghost use Rattle.vk_resources.specs.Matches.{Stands};
     ghost use Rattle.vk_resources.specs.Allocating.{NoRoomIsExact, Allots};
     ghost use Rattle.vk_resources.specs.Fits.{FitsEntry};
     ghost use Rattle.vk_resources.specs.Counted.{Counts};
@@ -210,9 +210,9 @@ impl Resources {
     /// Makes a buffer.
     fn make_buffer(&mut self, id: u32, info: &BufferInfo) -> Result<Applied, AllocError>
         requires ready { EntryReady self.old (entry.Buffer id info.now) }
-        ensures done { IfOk result (λ a. (e : ℕ) (past : Past) → MatchesLive past self.old → FitsEntry past (entry.Buffer id info.now) → DoneBy a e (entry.Buffer id info.now) past self.old self.new) }
+        ensures done { IfOk result (λ a. (e : ℕ) (past : Past) → Stands past self.old → FitsEntry past (entry.Buffer id info.now) → DoneBy a e (entry.Buffer id info.now) past self.old self.new) }
         ensures rooms { IfOk result (λ a. (past : Past) → FitsEntry past (entry.Buffer id info.now) → NoRoomIsExact a self.old (entry.Buffer id info.now)) }
-        ensures allots { IfOk result (λ a. (past : Past) → MatchesLive past self.old → FitsEntry past (entry.Buffer id info.now) → Allots a (entry.Buffer id info.now) self.old self.new) }
+        ensures allots { IfOk result (λ a. (past : Past) → Stands past self.old → FitsEntry past (entry.Buffer id info.now) → Allots a (entry.Buffer id info.now) self.old self.new) }
         ensures keeps { IfOk result (λ a. KeepsObjects self.old self.new) }
     {
         let asked = Asked {
@@ -236,9 +236,9 @@ impl Resources {
     /// Makes an image.
     fn make_image(&mut self, id: u32, info: &ImageInfo) -> Result<Applied, AllocError>
         requires ready { EntryReady self.old (entry.Image id info.now) }
-        ensures done { IfOk result (λ a. (e : ℕ) (past : Past) → MatchesLive past self.old → FitsEntry past (entry.Image id info.now) → DoneBy a e (entry.Image id info.now) past self.old self.new) }
+        ensures done { IfOk result (λ a. (e : ℕ) (past : Past) → Stands past self.old → FitsEntry past (entry.Image id info.now) → DoneBy a e (entry.Image id info.now) past self.old self.new) }
         ensures rooms { IfOk result (λ a. (past : Past) → FitsEntry past (entry.Image id info.now) → NoRoomIsExact a self.old (entry.Image id info.now)) }
-        ensures allots { IfOk result (λ a. (past : Past) → MatchesLive past self.old → FitsEntry past (entry.Image id info.now) → Allots a (entry.Image id info.now) self.old self.new) }
+        ensures allots { IfOk result (λ a. (past : Past) → Stands past self.old → FitsEntry past (entry.Image id info.now) → Allots a (entry.Image id info.now) self.old self.new) }
         ensures keeps { IfOk result (λ a. KeepsObjects self.old self.new) }
     {
         texels_inside();
@@ -269,9 +269,9 @@ impl Resources {
     fn make(&mut self, entry: &Entry) -> Result<Applied, AllocError>
         requires ready { EntryReady self.old entry.now }
         requires making { IsMaking entry.now }
-        ensures done { IfOk result (λ a. (e : ℕ) (past : Past) → MatchesLive past self.old → FitsEntry past entry.now → DoneBy a e entry.now past self.old self.new) }
+        ensures done { IfOk result (λ a. (e : ℕ) (past : Past) → Stands past self.old → FitsEntry past entry.now → DoneBy a e entry.now past self.old self.new) }
         ensures rooms { IfOk result (λ a. (past : Past) → FitsEntry past entry.now → NoRoomIsExact a self.old entry.now) }
-        ensures allots { IfOk result (λ a. (past : Past) → MatchesLive past self.old → FitsEntry past entry.now → Allots a entry.now self.old self.new) }
+        ensures allots { IfOk result (λ a. (past : Past) → Stands past self.old → FitsEntry past entry.now → Allots a entry.now self.old self.new) }
         ensures keeps { IfOk result (λ a. KeepsObjects self.old self.new) }
     {
         match entry {
@@ -286,12 +286,12 @@ impl Resources {
     /// that breaks no rule reaches memory only where it is mapped. The only error is want of memory.
     pub fn apply(&mut self, entry: &Entry) -> Result<Applied, AllocError>
         requires { EntryReady self.old entry.now }
-        ensures done { IfOk result (λ a. (e : ℕ) (past : Past) → MatchesLive past self.old → FitsEntry past entry.now → DoneBy a e entry.now past self.old self.new) }
+        ensures done { IfOk result (λ a. (e : ℕ) (past : Past) → Stands past self.old → FitsEntry past entry.now → DoneBy a e entry.now past self.old self.new) }
         ensures rooms { IfOk result (λ a. (past : Past) → FitsEntry past entry.now → NoRoomIsExact a self.old entry.now) }
-        ensures allots { IfOk result (λ a. (past : Past) → MatchesLive past self.old → FitsEntry past entry.now → Allots a entry.now self.old self.new) }
+        ensures allots { IfOk result (λ a. (past : Past) → Stands past self.old → FitsEntry past entry.now → Allots a entry.now self.old self.new) }
         ensures counts { OnOk result (Counts entry.now self.old self.new) }
         // Of all memory objects that stay only the bytes that memory gets change.
-        ensures rest { OnOk result ((past : Past) → MatchesLive past self.old → FitsEntry past entry.now → KeepsRest self.old self.new (is_changed_by self.old past entry.now)) }
+        ensures rest { OnOk result ((past : Past) → Stands past self.old → FitsEntry past entry.now → KeepsRest self.old self.new (is_changed_by self.old past entry.now)) }
     {
         match entry {
             Entry::Memory { .. } | Entry::Buffer { .. } | Entry::Image { .. } => self.make(entry),

@@ -29,7 +29,7 @@ impl Resources {
     ghost use Rattle.vk_transfer.specs.Copies.{copy_piece};
     ghost use Rattle.vk_resources.specs.Held.{flat, byte_at};
     ghost use Rattle.vk_resources.specs.Rest.{KeepsRest, is_written};
-    ghost use Rattle.vk_resources.specs.Matches.{MatchesLive};
+    ghost use Rattle.vk_resources.specs.Matches.{Stands};
     ghost use Rattle.vk_resources.specs.Allocating.{allotted};
     ghost use Rattle.vk_resources.specs.Fits.{FitsCommand, NamesLive};
     ghost use Rattle.vk_resources.specs.Done.{CommandReady, PieceReady};
@@ -38,7 +38,7 @@ impl Resources {
     /// How many pieces a command is run in.
     pub fn pieces(&self, work: &Work<'_>) -> u64
         requires { CommandReady self.now work.now }
-        ensures { (past : Past) → MatchesLive past self.now → FitsCommand past work.now → (0 < length (pieces past work.now) → NamesLive past work.now) → result ≡ length (pieces past work.now) }
+        ensures { (past : Past) → Stands past self.now → FitsCommand past work.now → (0 < length (pieces past work.now) → NamesLive past work.now) → result ≡ length (pieces past work.now) }
     {
         match work.command {
             Cmd::Fill {
@@ -75,10 +75,10 @@ impl Resources {
     /// Runs the piece of this number of a command: it writes its bytes, and no others.
     pub fn run_piece(&mut self, work: &Work<'_>, number: u64)
         requires { PieceReady self.old work.now number }
-        ensures ran { (past : Past) (ms : List ByteWrite) → MatchesLive past self.old → FitsCommand past work.now → slice_get (pieces past work.now) number ≡ Some ms → HaveRun ms (byte_at self.old) (byte_at self.new) }
+        ensures ran { (past : Past) (ms : List ByteWrite) → Stands past self.old → FitsCommand past work.now → slice_get (pieces past work.now) number ≡ Some ms → HaveRun ms (byte_at self.old) (byte_at self.new) }
         // Of all memory only the bytes that are written change, also where no resource lies.
-        ensures rest { (past : Past) (ms : List ByteWrite) → MatchesLive past self.old → FitsCommand past work.now → slice_get (pieces past work.now) number ≡ Some ms → KeepsRest self.old self.new (is_written ms) }
-        ensures matches { (past : Past) → MatchesLive past self.old → MatchesLive past self.new }
+        ensures rest { (past : Past) (ms : List ByteWrite) → Stands past self.old → FitsCommand past work.now → slice_get (pieces past work.now) number ≡ Some ms → KeepsRest self.old self.new (is_written ms) }
+        ensures matches { (past : Past) → Stands past self.old → Stands past self.new }
         ensures placed { self.new.resources ≡ self.old.resources }
         ensures shapes { self.new.shapes ≡ self.old.shapes }
         ensures cache { self.new.cache ≡ self.old.cache }

@@ -16,7 +16,7 @@ use Rattle.vk_laws.specs.DirectRuns.{DirectRun, HostMemory, cells_of}
 use Rattle.vk_queues.specs.IsWaiting.{IsWaiting}
 use Rattle.vk_offers.specs.IsOffers.{IsOffers, CountsBefore, host_node, is_free_next, is_run}
 use Rattle.vk_resources.specs.Held.{Held, IsThere, HasCell}
-use Rattle.vk_resources.specs.Matches.{MatchesLive}
+use Rattle.vk_resources.specs.Matches.{Stands}
 use Rattle.vk_resources.specs.Fits.{FitsCommand, NamesLive}
 use Rattle.vk_resources.specs.Done.{CommandReady}
 use Rattle.vk_device.specs.declared.device.Device.{Device}
@@ -31,7 +31,7 @@ Waited d x (Some counts) = (t : List Entry) (steps : List Step) (s : Stage) (xs 
 -- Just before an entry the host's cache has taken up or given back atoms of the buffer that it accesses, and nothing else has changed (Vulkan, "Host Access to Device Memory Objects").
 pub record HasTouched (x : Entry) (atoms : List ℕ) (old new : Held) : Type 0 where
   pub cells : (c : Byte) (cell : Cell) → IsThere old c → HasCell old c cell → HasCell new c (if in_atoms (touched_by x) atoms c then turned_over cell else cell)
-  pub matches : (past : Past) → MatchesLive past old → MatchesLive past new
+  pub matches : (past : Past) → Stands past old → Stands past new
   pub resources : new.resources ≡ old.resources
   pub shapes : new.shapes ≡ old.shapes
   pub same : atoms ≡ [] → new ≡ old
@@ -46,7 +46,7 @@ pub record HostDone (t : List Entry) (steps : List Step) (s : Stage) (x : Entry)
   pub memory : HostMemory
   pub run : DirectRun t (steps ++ Apply atoms 0 ∷ []) (runs.applied s 0 x xs) memory
   pub holds : (c : Byte) → IsThere d.resources c → HasCell d.resources c (cells_of memory c)
-  pub matches : MatchesLive (host s.count x ∷ s.front.past) d.resources
+  pub matches : Stands (host s.count x ∷ s.front.past) d.resources
   pub works : AreWorks d.works.items s.front.past
   pub waits : IsWaiting d.waiting d.count s.front
   pub counts : d.count ≡ s.count
@@ -60,7 +60,7 @@ AdvanceReady d x = (t : List Entry) × (steps : List Step) × (s : Stage) × (xs
 
 -- A command that comes fits what the resources are, and names live objects where it has a piece.
 pub record CommandFits (past : Past) (c : Cmd) (resources : Held) : Type 0 where
-  pub matches : MatchesLive past resources
+  pub matches : Stands past resources
   pub fits : FitsCommand past c
   pub alive : 0 < length (pieces past c) → NamesLive past c
 

@@ -16,7 +16,7 @@ use Rattle.vk_image_transfer.specs.Pieces.{RangeFits, range_rows}
 use Rattle.vk_image_transfer.specs.Rows.{BoxFits, RegionFits}
 use Rattle.vk_resources.specs.declared.resources.Placed.{Placed}
 use Rattle.vk_resources.specs.Held.{Held, placed, shape_of, byte_at}
-use Rattle.vk_resources.specs.Matches.{MatchesLive}
+use Rattle.vk_resources.specs.Matches.{Stands}
 use Rattle.vk_resources.specs.Fits.{FitsCommand, KeepsApart}
 use Rattle.vk_resources.specs.Rest.{KeepsRest, is_written}
 use Rattle.vk_resources.specs.Inner.Steps.{KeepsPlaces}
@@ -63,7 +63,7 @@ pub record ImageRowReady (s : Held) (a b : ℕ) (g : ImageCopy) (k : ℕ) : Type
 
 -- A piece of a command has been run, and nothing else has changed (Vulkan, "Clear Commands" and "Copy Commands").
 pub record HasRunPiece (old new : Held) (c : Cmd) (k : ℕ) : Type 0 where
-  pub ran : (past : Past) (ms : List ByteWrite) → MatchesLive past old → FitsCommand past c → slice_get (pieces past c) k ≡ Some ms → HaveRun ms (byte_at old) (byte_at new)
+  pub ran : (past : Past) (ms : List ByteWrite) → Stands past old → FitsCommand past c → slice_get (pieces past c) k ≡ Some ms → HaveRun ms (byte_at old) (byte_at new)
   pub keeps : KeepsPlaces old new
   pub cache : new.cache ≡ old.cache
-  pub rest : (past : Past) (ms : List ByteWrite) → MatchesLive past old → FitsCommand past c → slice_get (pieces past c) k ≡ Some ms → KeepsRest old new (is_written ms)
+  pub rest : (past : Past) (ms : List ByteWrite) → Stands past old → FitsCommand past c → slice_get (pieces past c) k ≡ Some ms → KeepsRest old new (is_written ms)

@@ -41,7 +41,7 @@ returns-in-Destroy-clause-rest c = λ past m fit. objects_rest c.args.self.now c
 -- ---- pools
 
 pub make_pool-requires-clause-absent : goal.make_pool-requires-clause-absent
-make_pool-requires-clause-absent c = λ consistent. pool_absent c.args.self.now c.args.entry.now c.in-Pool.id c.in-Pool.info c.in-Pool.is consistent c.requires.0 c.requires.1 c.requires.2
+make_pool-requires-clause-absent c = λ consistent. pool_absent c.args.self.now c.args.entry.now c.in-Pool.id c.in-Pool.info c.in-Pool.is consistent c.requires.0 c.requires.1.live c.requires.2
 
 pub returns-in_ok-make_pool-in-Pool-clause-done : goal.returns-in_ok-make_pool-in-Pool-clause-done
 returns-in_ok-make_pool-in-Pool-clause-done c = λ e past m fit.

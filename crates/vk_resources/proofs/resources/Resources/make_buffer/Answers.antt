@@ -11,13 +11,13 @@ use Rattle.vk_resources.proofs.Sharing.{all_elsewhere, shared_done, shared_rooms
 use Rattle.vk_resources.proofs.resources.Resources.make_buffer.Goals as goal
 
 pub bind-requires-clause-ready : goal.bind-requires-clause-ready
-bind-requires-clause-ready c = λ consistent. let r = c.requires.ready in may_bind c.args.self.now c.args.self.now (entry.Buffer c.args.id c.args.info.now) (entry.Buffer c.args.id c.args.info.now) refl c.args.id (of_buffer c.args.info.now) c.args.info.now.size None (creates_buffer c.args.id c.args.info.now) (λ past fit. buffer_fits (entry.Buffer c.args.id c.args.info.now) c.args.id c.args.info.now refl past fit) consistent c.in-Memory.memory c.in-Memory.offset c.in-Memory.is r.0 r.1 r.2
+bind-requires-clause-ready c = λ consistent. let r = c.requires.ready in may_bind c.args.self.now c.args.self.now (entry.Buffer c.args.id c.args.info.now) (entry.Buffer c.args.id c.args.info.now) refl c.args.id (of_buffer c.args.info.now) c.args.info.now.size None (creates_buffer c.args.id c.args.info.now) (λ past fit. buffer_fits (entry.Buffer c.args.id c.args.info.now) c.args.id c.args.info.now refl past fit) consistent c.in-Memory.memory c.in-Memory.offset c.in-Memory.is r.0 r.1.live r.2
 
 pub make_shared-requires-clause-elsewhere : goal.make_shared-requires-clause-elsewhere
-make_shared-requires-clause-elsewhere c = let r = c.requires.ready in all_elsewhere r.0 c.args.self.now c.args.id r.1 (buffer_fits (entry.Buffer c.args.id c.args.info.now) c.args.id c.args.info.now refl r.0 r.2).unused
+make_shared-requires-clause-elsewhere c = let r = c.requires.ready in all_elsewhere r.0 c.args.self.now c.args.id r.1.live (buffer_fits (entry.Buffer c.args.id c.args.info.now) c.args.id c.args.info.now refl r.0 r.2).unused
 
 pub make_shared-requires-in-PoolUpper-clause-elsewhere : goal.make_shared-requires-in-PoolUpper-clause-elsewhere
-make_shared-requires-in-PoolUpper-clause-elsewhere c = let r = c.requires.ready in all_elsewhere r.0 c.args.self.now c.args.id r.1 (buffer_fits (entry.Buffer c.args.id c.args.info.now) c.args.id c.args.info.now refl r.0 r.2).unused
+make_shared-requires-in-PoolUpper-clause-elsewhere c = let r = c.requires.ready in all_elsewhere r.0 c.args.self.now c.args.id r.1.live (buffer_fits (entry.Buffer c.args.id c.args.info.now) c.args.id c.args.info.now refl r.0 r.2).unused
 
 pub returns-in-Dedicated-clause-done : goal.returns-in-Dedicated-clause-done
 returns-in-Dedicated-clause-done c =

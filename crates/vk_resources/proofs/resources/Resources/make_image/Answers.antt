@@ -57,17 +57,17 @@ bind-requires-clause-ready c = λ consistent.
     let same = c.in-Ok.ensures.1 in
     let size : c.requirements-need.result.size ≡ image_size c.args.info.now c.args.info.now.tiling = ap (λ (n : Need). n.size) c.requirements-need.ensures.need ∙ ap (λ (m : ImageInfo). image_size m m.tiling) same in
     let r = c.requires.ready in
-    subst (λ (n : ℕ). BindReady c.args.self.now c.in-Memory.memory c.in-Memory.offset n) (sym size) (may_bind c.args.self.now c.args.self.now (entry.Image c.args.id c.args.info.now) (entry.Image c.args.id c.args.info.now) refl c.args.id (of_image c.args.info.now) (image_size c.args.info.now c.args.info.now.tiling) (Some c.args.info.now) (creates_image c.args.id c.args.info.now) (λ past fit. image_fits (entry.Image c.args.id c.args.info.now) c.args.id c.args.info.now (some_of c.texels_inside.ensures (entry.Image c.args.id c.args.info.now) c.args.id c.args.info.now refl past fit) refl past fit) consistent c.in-Memory.memory c.in-Memory.offset c.in-Memory.is r.0 r.1 r.2)
+    subst (λ (n : ℕ). BindReady c.args.self.now c.in-Memory.memory c.in-Memory.offset n) (sym size) (may_bind c.args.self.now c.args.self.now (entry.Image c.args.id c.args.info.now) (entry.Image c.args.id c.args.info.now) refl c.args.id (of_image c.args.info.now) (image_size c.args.info.now c.args.info.now.tiling) (Some c.args.info.now) (creates_image c.args.id c.args.info.now) (λ past fit. image_fits (entry.Image c.args.id c.args.info.now) c.args.id c.args.info.now (some_of c.texels_inside.ensures (entry.Image c.args.id c.args.info.now) c.args.id c.args.info.now refl past fit) refl past fit) consistent c.in-Memory.memory c.in-Memory.offset c.in-Memory.is r.0 r.1.live r.2)
 
 pub make_shared-requires-clause-elsewhere : goal.make_shared-requires-clause-elsewhere
 make_shared-requires-clause-elsewhere c =
     let r = c.requires.ready in
-    all_elsewhere r.0 c.args.self.now c.args.id r.1 (image_fits (entry.Image c.args.id c.args.info.now) c.args.id c.args.info.now (some_of c.texels_inside.ensures (entry.Image c.args.id c.args.info.now) c.args.id c.args.info.now refl r.0 r.2) refl r.0 r.2).unused
+    all_elsewhere r.0 c.args.self.now c.args.id r.1.live (image_fits (entry.Image c.args.id c.args.info.now) c.args.id c.args.info.now (some_of c.texels_inside.ensures (entry.Image c.args.id c.args.info.now) c.args.id c.args.info.now refl r.0 r.2) refl r.0 r.2).unused
 
 pub make_shared-requires-in-PoolUpper-clause-elsewhere : goal.make_shared-requires-in-PoolUpper-clause-elsewhere
 make_shared-requires-in-PoolUpper-clause-elsewhere c =
     let r = c.requires.ready in
-    all_elsewhere r.0 c.args.self.now c.args.id r.1 (image_fits (entry.Image c.args.id c.args.info.now) c.args.id c.args.info.now (some_of c.texels_inside.ensures (entry.Image c.args.id c.args.info.now) c.args.id c.args.info.now refl r.0 r.2) refl r.0 r.2).unused
+    all_elsewhere r.0 c.args.self.now c.args.id r.1.live (image_fits (entry.Image c.args.id c.args.info.now) c.args.id c.args.info.now (some_of c.texels_inside.ensures (entry.Image c.args.id c.args.info.now) c.args.id c.args.info.now refl r.0 r.2) refl r.0 r.2).unused
 
 pub returns-in-Dedicated-clause-done : goal.returns-in-Dedicated-clause-done
 returns-in-Dedicated-clause-done c =

@@ -15,12 +15,12 @@ use Rattle.vk_resources.proofs.resources.Resources.pieces.Goals as goal
 
 pub returns-in-Some : goal.returns-in-Some
 returns-in-Some c = λ past m fit alive.
-    fill_counted past c.args.self.now m c.args.work.now c.in-Fill.buffer c.in-Fill.offset c.in-Fill.word c.in-Fill.size c.in-Some.placed c.pieces.result (sym c.work.view_is ∙ c.in-Fill.is) (sym c.buffer.ensures ∙ c.in-Some.is)
+    fill_counted past c.args.self.now m.live c.args.work.now c.in-Fill.buffer c.in-Fill.offset c.in-Fill.word c.in-Fill.size c.in-Some.placed c.pieces.result (sym c.work.view_is ∙ c.in-Fill.is) (sym c.buffer.ensures ∙ c.in-Some.is)
     (rw c.filling.ensures at (c.pieces.ensures c.in-Fill.buffer))
 
 pub returns-in-None : goal.returns-in-None
 returns-in-None c = λ past m fit alive.
-    fill_none past c.args.self.now m c.args.work.now c.in-Fill.buffer c.in-Fill.offset c.in-Fill.word c.in-Fill.size (sym c.work.view_is ∙ c.in-Fill.is) (sym c.buffer.ensures ∙ c.in-None.is) alive
+    fill_none past c.args.self.now m.live c.args.work.now c.in-Fill.buffer c.in-Fill.offset c.in-Fill.word c.in-Fill.size (sym c.work.view_is ∙ c.in-Fill.is) (sym c.buffer.ensures ∙ c.in-None.is) alive
 
 pub returns-in-Update : goal.returns-in-Update
 returns-in-Update c = λ past m fit alive.
@@ -32,7 +32,7 @@ pub pieces-requires-in-Some-get-clause-few : goal.pieces-requires-in-Some-get-cl
 pieces-requires-in-Some-get-clause-few c =
     let s : Held = record { memory = c.self.inside.memories; backed = c.self.inside.backing; resources = c.self.inside.resources.entries; shapes = c.self.inside.shapes.entries; cache = c.self.inside.cache } in
     let shaped : shape_of s c.in-Clear.image ≡ Some c.in-Some-get.shape.now = sym c.get.ensures.value ∙ ap (option_map (λ (b : Bor ImageInfo). b.now)) c.in-Some-get.is in
-    let few = (clear_few c.requires.0 s (subst (λ (h : Held). MatchesLive c.requires.0 h) (sym c.self.view_is) c.requires.1) c.in-Clear.image c.in-Clear.layout c.in-Clear.color c.in-Clear.ranges c.self.invariant c.in-Some-get.shape.now shaped
+    let few = (clear_few c.requires.0 s (subst (λ (h : Held). MatchesLive c.requires.0 h) (sym c.self.view_is) c.requires.1.live) c.in-Clear.image c.in-Clear.layout c.in-Clear.color c.in-Clear.ranges c.self.invariant c.in-Some-get.shape.now shaped
     (subst (λ (y : Cmd). FitsCommand c.requires.0 y) (sym c.work.view_is ∙ c.in-Clear.is) c.requires.2)).1 in
     rw c.as_slice-in-Some-get.ensures few
 
@@ -40,7 +40,7 @@ pub returns-in-Some-get : goal.returns-in-Some-get
 returns-in-Some-get c = λ past m fit alive.
     let s : Held = record { memory = c.self.inside.memories; backed = c.self.inside.backing; resources = c.self.inside.resources.entries; shapes = c.self.inside.shapes.entries; cache = c.self.inside.cache } in
     let shaped : shape_of s c.in-Clear.image ≡ Some c.in-Some-get.shape.now = sym c.get.ensures.value ∙ ap (option_map (λ (b : Bor ImageInfo). b.now)) c.in-Some-get.is in
-    clear_counted past s (subst (λ (h : Held). MatchesLive past h) (sym c.self.view_is) m) c.in-Clear.image c.in-Clear.layout c.in-Clear.color c.in-Clear.ranges c.in-Some-get.shape.now c.pieces-in-Some-get.result shaped
+    clear_counted past s (subst (λ (h : Held). MatchesLive past h) (sym c.self.view_is) m.live) c.in-Clear.image c.in-Clear.layout c.in-Clear.color c.in-Clear.ranges c.in-Some-get.shape.now c.pieces-in-Some-get.result shaped
     (c.pieces-in-Some-get.ensures.pieces c.in-Clear.image ∙ ap (λ (rs : List SubresourceRange). length (all_cleared c.in-Clear.image c.in-Clear.color c.in-Some-get.shape.now rs)) c.as_slice-in-Some-get.ensures)
     ∙ ap (λ (y : Cmd). length (pieces past y)) (sym (sym c.work.view_is ∙ c.in-Clear.is))
 
@@ -48,7 +48,7 @@ pub returns-in-None-get : goal.returns-in-None-get
 returns-in-None-get c = λ past m fit alive.
     let none : shape_of c.args.self.now c.in-Clear.image ≡ None =
     ap (λ (h : Held). shape_of h c.in-Clear.image) (sym c.self.view_is) ∙ sym c.get.ensures.value ∙ ap (option_map (λ (b : Bor ImageInfo). b.now)) c.in-None-get.is in
-    let count : 0 ≡ length (pieces past (cmd.Clear c.in-Clear.image c.in-Clear.layout c.in-Clear.color c.in-Clear.ranges)) = clear_none past c.args.self.now m c.in-Clear.image c.in-Clear.layout c.in-Clear.color c.in-Clear.ranges none
+    let count : 0 ≡ length (pieces past (cmd.Clear c.in-Clear.image c.in-Clear.layout c.in-Clear.color c.in-Clear.ranges)) = clear_none past c.args.self.now m.live c.in-Clear.image c.in-Clear.layout c.in-Clear.color c.in-Clear.ranges none
     (subst (λ (y : Cmd). 0 < length (pieces past y) → NamesLive past y) (sym c.work.view_is ∙ c.in-Clear.is) alive) in
     count ∙ ap (λ (y : Cmd). length (pieces past y)) (sym (sym c.work.view_is ∙ c.in-Clear.is))
 

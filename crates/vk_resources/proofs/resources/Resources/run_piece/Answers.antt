@@ -1,7 +1,6 @@
 use Rattle.std.proofs.Common.{refl, sym, ◌∙◌}
-use Rattle.vk_model.specs.Trace.Objects.{live}
 use Rattle.vk_resources.proofs.Fitting.{fill_there, fill_may, fill_made, update_there, update_may, update_made, source_there, destination_there, copy_may, copy_made, regions_of}
-use Rattle.vk_resources.proofs.Matching.{keeps_matches}
+use Rattle.vk_resources.proofs.Matching.{keeps_stands}
 use Rattle.vk_resources.proofs.resources.Resources.run_piece.Goals as goal
 
 -- ---- fills
@@ -24,15 +23,15 @@ run_fill-requires-clause-piece c =
 pub returns-in-Fill-clause-ran : goal.returns-in-Fill-clause-ran
 returns-in-Fill-clause-ran c = λ past ms m fits at.
     (fill_made c.args.self.now c.args.work.now c.args.number c.requires c.in-Fill.buffer c.in-Fill.offset c.in-Fill.word c.in-Fill.size (sym c.work.view_is ∙ c.in-Fill.is) c.there-placed.result c.there-placed.ensures c.filling.result c.filling.ensures
-    c.run_fill.new.self (c.run_fill.ensures c.in-Fill.buffer c.there-placed.ensures) past ms m at).1
+    c.run_fill.new.self (c.run_fill.ensures c.in-Fill.buffer c.there-placed.ensures) past ms m.live at).1
 
 pub returns-in-Fill-clause-matches : goal.returns-in-Fill-clause-matches
-returns-in-Fill-clause-matches c = λ past m. keeps_matches (live past) c.args.self.now c.run_fill.new.self (c.run_fill.ensures c.in-Fill.buffer c.there-placed.ensures).0 m
+returns-in-Fill-clause-matches c = λ past m. keeps_stands past c.args.self.now c.run_fill.new.self (c.run_fill.ensures c.in-Fill.buffer c.there-placed.ensures).0 m
 
 pub returns-in-Fill-clause-rest : goal.returns-in-Fill-clause-rest
 returns-in-Fill-clause-rest c = λ past ms m fits at.
     (fill_made c.args.self.now c.args.work.now c.args.number c.requires c.in-Fill.buffer c.in-Fill.offset c.in-Fill.word c.in-Fill.size (sym c.work.view_is ∙ c.in-Fill.is) c.there-placed.result c.there-placed.ensures c.filling.result c.filling.ensures
-    c.run_fill.new.self (c.run_fill.ensures c.in-Fill.buffer c.there-placed.ensures) past ms m at).3
+    c.run_fill.new.self (c.run_fill.ensures c.in-Fill.buffer c.there-placed.ensures) past ms m.live at).3
 
 -- ---- updates
 
@@ -52,15 +51,15 @@ run_update-requires-clause-piece c =
 pub returns-in-Update-clause-ran : goal.returns-in-Update-clause-ran
 returns-in-Update-clause-ran c = λ past ms m fits at.
     (update_made c.args.self.now c.args.work.now c.args.number c.requires c.in-Update.buffer c.in-Update.offset c.in-Update.bytes (sym c.work.view_is ∙ c.in-Update.is) c.there-placed-in-Update.result c.there-placed-in-Update.ensures
-    (record { offset = c.in-Update.offset; bytes = c.as_slice.result }) refl c.as_slice.ensures c.run_update.new.self (c.run_update.ensures c.in-Update.buffer c.there-placed-in-Update.ensures) past ms m at).1
+    (record { offset = c.in-Update.offset; bytes = c.as_slice.result }) refl c.as_slice.ensures c.run_update.new.self (c.run_update.ensures c.in-Update.buffer c.there-placed-in-Update.ensures) past ms m.live at).1
 
 pub returns-in-Update-clause-matches : goal.returns-in-Update-clause-matches
-returns-in-Update-clause-matches c = λ past m. keeps_matches (live past) c.args.self.now c.run_update.new.self (c.run_update.ensures c.in-Update.buffer c.there-placed-in-Update.ensures).0 m
+returns-in-Update-clause-matches c = λ past m. keeps_stands past c.args.self.now c.run_update.new.self (c.run_update.ensures c.in-Update.buffer c.there-placed-in-Update.ensures).0 m
 
 pub returns-in-Update-clause-rest : goal.returns-in-Update-clause-rest
 returns-in-Update-clause-rest c = λ past ms m fits at.
     (update_made c.args.self.now c.args.work.now c.args.number c.requires c.in-Update.buffer c.in-Update.offset c.in-Update.bytes (sym c.work.view_is ∙ c.in-Update.is) c.there-placed-in-Update.result c.there-placed-in-Update.ensures
-    (record { offset = c.in-Update.offset; bytes = c.as_slice.result }) refl c.as_slice.ensures c.run_update.new.self (c.run_update.ensures c.in-Update.buffer c.there-placed-in-Update.ensures) past ms m at).3
+    (record { offset = c.in-Update.offset; bytes = c.as_slice.result }) refl c.as_slice.ensures c.run_update.new.self (c.run_update.ensures c.in-Update.buffer c.there-placed-in-Update.ensures) past ms m.live at).3
 
 -- ---- copies
 
@@ -73,7 +72,7 @@ run_copy-requires-clause-piece c =
     (regions_of c.work.inside.command.now c.work.inside.regions c.in-Copy.source c.in-Copy.destination c.in-Copy.regions c.in-OfBuffers.pieces c.work.invariant c.in-Copy.is c.in-OfBuffers.is)
 
 pub returns-in-OfBuffers-clause-matches : goal.returns-in-OfBuffers-clause-matches
-returns-in-OfBuffers-clause-matches c = λ past m. keeps_matches (live past) c.args.self.now c.run_copy.new.self (c.run_copy.ensures c.in-Copy.source c.in-Copy.destination c.there-from.ensures c.there-to.ensures).0 m
+returns-in-OfBuffers-clause-matches c = λ past m. keeps_stands past c.args.self.now c.run_copy.new.self (c.run_copy.ensures c.in-Copy.source c.in-Copy.destination c.there-from.ensures c.there-to.ensures).0 m
 
 pub there-to-requires : goal.there-to-requires
 there-to-requires c = destination_there c.args.self.now c.args.work.now c.args.number c.requires c.in-Copy.source c.in-Copy.destination c.in-Copy.regions (sym c.work.view_is ∙ c.in-Copy.is)
@@ -105,4 +104,4 @@ returns-in-OfBuffers-clause-allotted c = (c.run_copy.ensures c.in-Copy.source c.
 -- ---- images
 
 pub returns-in_default-clause-matches : goal.returns-in_default-clause-matches
-returns-in_default-clause-matches c = λ past m. keeps_matches (live past) c.args.self.now c.run_for_images.new.self c.run_for_images.ensures.keeps m
+returns-in_default-clause-matches c = λ past m. keeps_stands past c.args.self.now c.run_for_images.new.self c.run_for_images.ensures.keeps m
