@@ -212,6 +212,7 @@ module _ {B : Type 0} (block : B → Block) (info : PoolInfo) (xs : List (Held B
         subst (λ (k : Kept). LosesOne k (kept_of block info new next) s.block gone.memory) view (record {
           index = i;
           there = omega (arith, lt, length-map xs (λ (y : Held B). y.memory));
+          block = omega (arith, lt, length-map xs (numbered block));
           is = get_or-map-in (λ (y : Held B). y.memory) xs i x 0 lt ∙ ap (λ (y : Held B). y.memory) (sym is) ∙ ap (λ (y : Held B). y.memory) (sym (e ∙ get_or-set_same xs i after gone lt));
           numbered = ap (λ (ns : List ℕ). get_or ns i 0) (seen-numbers block xs) ∙ get_or-map-in (λ (y : Held B). y.number) xs i x 0 lt ∙ number;
           memories = ap (λ (l : List (Held B)). objects l) new-is ∙ map-cut (λ (y : Held B). y.memory) xs i ∙ ap (λ (n : ℕ). take i (objects xs) ++ drop n (objects xs)) (sym next-index);

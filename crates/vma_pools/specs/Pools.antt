@@ -81,6 +81,7 @@ block_numbers p = map (λ b. b.number) p.blocks
 pub record LosesOne (old new : Kept) (number gone : ℕ) : Type 0 where
   pub index : ℕ
   pub there : index < length old.memories
+  pub block : index < length old.pool.blocks
   pub is : get_or old.memories index 0 ≡ gone
   pub numbered : get_or (block_numbers old.pool) index 0 ≡ number
   pub memories : new.memories ≡ take index old.memories ++ drop (index + 1) old.memories
