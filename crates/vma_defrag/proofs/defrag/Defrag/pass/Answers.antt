@@ -1,0 +1,9 @@
+use Rattle.vma_defrag.proofs.Matched.{reserves_matched, alike_matched}
+use Rattle.vma_defrag.specs.Inner.Planned.{moves_of}
+use Rattle.vma_defrag.proofs.defrag.Defrag.pass.Goals as goal
+
+pub returns-in-Ok-clause-matched : goal.returns-in-Ok-clause-matched
+returns-in-Ok-clause-matched g c = λ matched. reserves_matched (moves_of c.in_ok-planned.planned.items) c.args.pools.now c.reserve_moves.new.pools c.in_ok-planned.ensures.reserved.reserved matched
+
+pub returns-in-Err-clause-matched : goal.returns-in-Err-clause-matched
+returns-in-Err-clause-matched g c = λ matched. alike_matched c.args.pools.now c.cancel_all.new.pools (c.cancel_all.ensures.alike c.args.pools.now c.in_ok-planned.ensures.reserved) matched

@@ -1,0 +1,6 @@
+pub mod Planned
+pub mod Choosing
+pub mod Ending
+pub mod Held
+pub mod Copying
+pub mod Following
