@@ -1,5 +1,5 @@
 -- A range that is given back is that of a slot, and the block stays sound without it.
-use Rattle.std.proofs.Common.{◌≡◌, ℕ, zero, suc, ◌<◌, inl, inr, List, [], ◌∷◌, ◌++◌, length, get_or, Option, Some, ap, sym, subst, ◌∙◌, arith}
+use Rattle.std.proofs.Common.{◌≡◌, ℕ, zero, suc, ◌+◌, ◌<◌, ◌≤◌, inl, inr, List, [], ◌∷◌, ◌++◌, length, get_or, Option, Some, ap, sym, subst, ◌∙◌, arith}
 use Rattle.std.proofs.lemmas.Bool.{cases_eq}
 use Rattle.vk_nodes.specs.declared.node.Node.{Node}
 use Rattle.vk_nodes.specs.declared.node.RangeState.TheVariants as state
@@ -10,7 +10,7 @@ use Rattle.vk_model.proofs.Memory.Taken.{taking_away_is_sound}
 use Rattle.vma_tlsf.specs.Block.{Block, taken}
 use Rattle.vma_tlsf.specs.Inner.Chain.{Range, range_in, seen, IsChain, taken_in, taken_here}
 use Rattle.vma_tlsf.specs.Inner.Changes.{IsReleased, IsTakenIn}
-use Rattle.vma_tlsf.specs.Inner.Fits.{IsBlock, StartsAt, IsSlotAt}
+use Rattle.vma_tlsf.specs.Inner.Fits.{IsBlock, HasByte, IsSlotOf}
 use Rattle.vma_tlsf.specs.Inner.Wants.{state_of}
 use Rattle.vma_tlsf.proofs.Cuts.{free_takes_none}
 use Rattle.vma_tlsf.proofs.Conflicts.{takes, state_cases}
@@ -56,32 +56,34 @@ taken_slot (x ∷ xs) start k t less is at = elim (seen_cases (range_in x)) [
 pub slot_of : (nodes : List (Option Node)) (start : ℕ) → IsTakenAt start (taken_in nodes) → IsTakenSlot nodes start
 slot_of nodes start any = taken_slot nodes start any.0 any.1 any.2 any.3 any.4
 
-pub starts_there : (nodes : List (Option Node)) (start : ℕ) → IsTakenAt start (taken_in nodes) → StartsAt nodes start
-starts_there nodes start any = let s = slot_of nodes start any in (s.slot, s.range, s.there, s.starts)
+pub byte_there : (whole root : ℕ) (nodes : List (Option Node)) (start : ℕ) → IsBlock whole root nodes → IsTakenAt start (taken_in nodes) → HasByte nodes start
+byte_there whole root nodes start block any =
+    let s = slot_of nodes start any in
+    let linked = block.chain.linked s.slot s.range s.there in
+    (whole, root, block.bound, block.chain, omega (arith, linked.some, linked.inside, s.starts))
 
 pub not_free : (l : Kind) → state_of l ≡ state.Free → ⊥
 not_free kind.Linear e = cc
 not_free kind.Optimal e = cc
 
--- two ranges that start together are one
-one_slot : (whole root : ℕ) (f : ℕ → Option Range) → IsChain whole root f → (i j : ℕ) (r q : Range) → f i ≡ Some r → f j ≡ Some q → r.start ≡ q.start → i ≡ j
-one_slot whole root f chain i j r q at_i at_j same = elim (cases_eq i j) [
+-- a range that has the start of another is that one
+one_slot : (whole root : ℕ) (f : ℕ → Option Range) → IsChain whole root f → (i j : ℕ) (r q : Range) → f i ≡ Some r → f j ≡ Some q → r.start ≤ q.start → q.start < r.start + r.size → i ≡ j
+one_slot whole root f chain i j r q at_i at_j from to = elim (cases_eq i j) [
   | inl e ↦ e
   | inr other ↦
-      let some_r = (chain.linked i r at_i).some in
       let some_q = (chain.linked j q at_j).some in
       absurd (elim (chain.apart i j r q at_i at_j other) [
-        | inl le ↦ omega (arith, le, some_r, same)
-        | inr le ↦ omega (arith, le, some_q, same)
+        | inl le ↦ omega (arith, le, to)
+        | inr le ↦ omega (arith, le, some_q, from)
       ])
 ]
 
-module _ (whole root : ℕ) (old : List (Option Node)) (slot start : ℕ) (block : IsBlock whole root old) (any : IsTakenAt start (taken_in old)) (found : IsSlotAt old slot start) where
+module _ (whole root : ℕ) (old : List (Option Node)) (slot start : ℕ) (block : IsBlock whole root old) (any : IsTakenAt start (taken_in old)) (found : IsSlotOf old slot start) where
   abbrev S : IsTakenSlot old start
   S = slot_of old start any
 
   there : seen old slot ≡ Some S.range
-  there = ap (seen old) (one_slot whole root (seen old) block.chain slot S.slot found.0 S.range found.1 S.there (found.2 ∙ sym S.starts)) ∙ S.there
+  there = ap (seen old) (one_slot whole root (seen old) block.chain slot S.slot found.0 S.range found.1 S.there (omega (arith, found.2, S.starts)) (omega (arith, found.3, S.starts))) ∙ S.there
 
   pub found_taken : IsTakenIn old slot
   found_taken = record { range = S.range; there = there; taken = λ e. not_free S.kind (sym S.state ∙ e) }
@@ -106,7 +108,7 @@ seen_all whole root nodes block = taken_all (record { size = whole; taken = take
 pub now_taken : (whole root : ℕ) (nodes : List (Option Node)) (now : Block) → IsBlock whole root nodes → record { size = whole; taken = taken_in nodes } ≡ now → taken now ≡ taken_in nodes
 now_taken whole root nodes now block view = ap taken (sym view) ∙ seen_all whole root nodes block
 
-pub freed_seen : (whole root : ℕ) (old new : List (Option Node)) (now : Block) (slot start : ℕ) (block : IsBlock whole root old) (any : IsTakenAt start (taken_in old)) (found : IsSlotAt old slot start)
+pub freed_seen : (whole root : ℕ) (old new : List (Option Node)) (now : Block) (slot start : ℕ) (block : IsBlock whole root old) (any : IsTakenAt start (taken_in old)) (found : IsSlotOf old slot start)
     → record { size = whole; taken = taken_in old } ≡ now → IsReleased old new slot → TakesAway (taken now) (taken (record { size = whole; taken = taken_in new })) start
 freed_seen whole root old new now slot start block any found view released =
     subst (λ ts. TakesAway ts (taken (record { size = whole; taken = taken_in new })) start) (sym (now_taken whole root old now block view))

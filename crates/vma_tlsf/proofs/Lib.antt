@@ -20,3 +20,4 @@ pub mod Listing
 pub mod Emptiness
 pub mod Permutations
 pub mod GivenBack
+pub mod Exhausted

@@ -1,5 +1,5 @@
 -- A block after a request: it is sound, and what is taken is what was asked.
-use Rattle.std.proofs.Common.{◌≡◌, ℕ, zero, suc, ◌+◌, ◌%◌, ◌<◌, ◌≤◌, inl, inr, List, Bool, true, Option, Some, None, refl, ap, sym, subst, ◌∙◌, arith}
+use Rattle.std.proofs.Common.{◌≡◌, ℕ, zero, suc, ◌+◌, ◌%◌, ◌<◌, ◌≤◌, inl, inr, List, Bool, true, false, Option, Some, None, refl, ap, sym, subst, ◌∙◌, arith}
 use Rattle.std.specs.Prelude.{IsTrue, Result, Ok, Err, IfOk, IsOk, OnErr, IfSome, IsSomeAnd, min}
 use Rattle.std.specs.List.{find, range_with_len}
 use Rattle.std.proofs.lemmas.Bool.{cases_eq, false_from_ne_true}
@@ -10,7 +10,7 @@ use Rattle.vk_model.specs.Memory.Room.{fits, lowest}
 use Rattle.vk_model.proofs.Memory.Taken.{fitting, widened, putting_is_sound}
 use Rattle.vma_tlsf.specs.declared.places.Want.{Want}
 use Rattle.vma_tlsf.specs.declared.places.Place.{Place}
-use Rattle.vma_tlsf.specs.Block.{Block, is_sound, taken}
+use Rattle.vma_tlsf.specs.Block.{Block, is_sound, taken, IsExhaustedBelow}
 use Rattle.vma_tlsf.specs.Inner.Chain.{seen, taken_in, taken_here}
 use Rattle.vma_tlsf.specs.Inner.Steps.{AreAlike}
 use Rattle.vma_tlsf.specs.Inner.Changes.{TakesMore}
@@ -118,3 +118,13 @@ module _ (whole root : ℕ) (old : List (Option Node)) (now : Block) (want : Wan
 
   pub too_large : whole < want.size → lowest (taken now) (request_of_want want) 0 (min limit now.size) ≡ None
   too_large more = none_lowest (λ start h. (let within = (fitting (taken_in old) (request_of_want want) 0 high start h).below in omega (arith, within, high_is, more)))
+
+  -- what fits nowhere below a start does so below no lower limit either
+  pub none_below_seen : (low : ℕ) → IsExhaustedBelow now.size (taken now) (request_of_want want) low → NoneBelow old (request_of_want want) high low
+  none_below_seen low none s less h =
+      let wide = widened (taken_in old) (request_of_want want) 0 high whole s (omega (arith, high_is)) h in
+      let size : whole ≡ now.size = ap (λ (b : Block). b.size) view in
+      let fails : fits (taken_in old) (request_of_want want) 0 whole s ≡ false =
+      ap (λ n. fits (taken_in old) (request_of_want want) 0 n s) size ∙ ap (λ ts. fits ts (request_of_want want) 0 now.size s) (sym (now_taken whole root old now block view)) ∙ none s less in
+      let both : true ≡ false = sym wide ∙ fails in
+      cc

@@ -1,5 +1,5 @@
 -- Walks from one range to the next.
-use Rattle.std.proofs.Common.{◌≡◌, ℕ, ◌+◌, ◌<◌, ◌≤◌, ◌^◌, inl, inr, List, Option, Some, None, get_or, refl, ap, sym, ◌∙◌, arith}
+use Rattle.std.proofs.Common.{◌≡◌, ℕ, ◌+◌, ◌<◌, ◌≤◌, ◌^◌, inl, inr, List, Option, Some, None, get_or, refl, ap, sym, subst, ◌∙◌, arith}
 use Rattle.std.specs.Prelude.{IsTrue, nat_le}
 use Rattle.std.specs.List.{list_any}
 use Rattle.std.proofs.lemmas.Bool.{and_parts, not-true, leb-true}
@@ -10,7 +10,7 @@ use Rattle.vk_model.specs.Memory.Suballocation.{Request, conflict}
 use Rattle.vk_model.specs.Memory.Room.{fits}
 use Rattle.vma_tlsf.specs.Inner.Chain.{range, seen, taken_in, taken_here}
 use Rattle.vma_tlsf.specs.Inner.Changes.{HasChain}
-use Rattle.vma_tlsf.specs.Inner.Fits.{HasBlockFrom, IsLowestIn, NoneBelow, IsLive, StartsAt, IsSlotAt}
+use Rattle.vma_tlsf.specs.Inner.Fits.{IsBlock, HasBlock, HasBlockFrom, HasByte, IsLowestIn, NoneBelow, NoneBefore, IsLive, IsSlotOf}
 use Rattle.vma_tlsf.proofs.Slots.{node_of}
 use Rattle.vma_tlsf.proofs.Splits.{some_same, none_some}
 use Rattle.vma_tlsf.proofs.Cuts.{node_seen, node_range}
@@ -64,29 +64,8 @@ module _ (nodes : List (Option Node)) (has : HasChain nodes) (slot : ℕ) (node 
   pub not_first : (start : ℕ) → start < node.start → node.before ≡ None → ⊥
   not_first start less none = let first = (has.3.linked slot (range node) there).first none in omega arith
 
-  -- a range that starts further on starts after this one's end
-  pub ends_before : (start : ℕ) → StartsAt nodes start → node.start < start → node.start + node.size ≤ start
-  ends_before start target less =
-      let starts : target.1.start ≡ start = target.3 in
-      let some_target = (has.3.linked target.0 target.1 target.2).some in
-      let other : slot ≡ target.0 → ⊥ = λ e. (let same : node.start ≡ target.1.start = ap (λ r. r.start) (some_same (range node) target.1 (sym there ∙ ap (seen nodes) e ∙ target.2)) in omega arith) in
-      elim (has.3.apart slot target.0 (range node) target.1 there target.2 other) [
-        | inl le ↦ omega arith
-        | inr le ↦ absurd (omega arith)
-      ]
-
-  pub not_last : (start : ℕ) → StartsAt nodes start → node.start < start → node.after ≡ None → ⊥
-  not_last start target less none =
-      let ends = (has.3.linked slot (range node) there).last none in
-      let before = ends_before start target less in
-      let starts : target.1.start ≡ start = target.3 in
-      let linked = has.3.linked target.0 target.1 target.2 in
-      let some_target = linked.some in
-      let inside = linked.inside in
-      omega arith
-
-  pub slot_there : (start : ℕ) → node.start ≡ start → IsSlotAt nodes slot start
-  slot_there start e = (range node, there, e)
+  pub slot_there : (byte : ℕ) → node.start ≤ byte → byte < node.start + node.size → IsSlotOf nodes slot byte
+  slot_there byte from to = (range node, there, from, to)
 
 -- nothing fits from within a taken range
 pub none_taken : (nodes : List (Option Node)) (slot : ℕ) (node : Node) (r : Request) (limit s : ℕ) → 0 < r.size → IsAt nodes slot node → (node.state ≡ state.Free → ⊥) → node.start ≤ s → s < node.start + node.size → IsTrue (fits (taken_in nodes) r 0 limit s) → ⊥
@@ -117,12 +96,16 @@ none_further nodes node r limit below lowest s less h = elim (leb_tells node.sta
   | inr one ↦ below s one.1 h
 ]
 
-pub none_at_all : (nodes : List (Option Node)) (root limit slot : ℕ) (node : Node) (r : Request) → 0 < r.size → HasBlockFrom nodes root limit → IsAt nodes slot node → node.after ≡ None → NoneBelow nodes r limit (node.start + node.size) → (s : ℕ) → IsTrue (fits (taken_in nodes) r 0 limit s) → ⊥
-none_at_all nodes root limit slot node r some has at last below s h =
-    let ends = (has.1.chain.linked slot (range node) (node_seen nodes slot node at.here at.some)).last last in
+-- nothing fits that ends at or below a limit, where nothing does that starts below it
+pub none_at_all : (nodes : List (Option Node)) (limit reached : ℕ) (r : Request) → 0 < r.size → limit ≤ reached → NoneBelow nodes r limit reached → (s : ℕ) → IsTrue (fits (taken_in nodes) r 0 limit s) → ⊥
+none_at_all nodes limit reached r some inside below s h =
     let within = leb-true (s + r.size) limit (and_parts _ (nat_le (s + r.size) limit) (and_parts _ _ h).0).1 in
-    let inside = has.2 in
     below s (omega arith) h
+
+pub none_behind : (nodes : List (Option Node)) (limit slot : ℕ) (node : Node) (r : Request) → 0 < r.size → HasBlock nodes limit → IsAt nodes slot node → node.after ≡ None → NoneBelow nodes r limit (node.start + node.size) → (s : ℕ) → IsTrue (fits (taken_in nodes) r 0 limit s) → ⊥
+none_behind nodes limit slot node r some has at last =
+    let ends = (has.2.chain.linked slot (range node) (node_seen nodes slot node at.here at.some)).last last in
+    none_at_all nodes limit (node.start + node.size) r some (omega (arith, ends, has.3))
 
 pub none_lower : (nodes : List (Option Node)) (node : Node) (r : Request) (limit start : ℕ) → NoneBelow nodes r limit node.start → IsLowestIn nodes node r limit (Some start) → NoneBelow nodes r limit start
 none_lower nodes node r limit start below lowest s less h = elim (leb_tells node.start s) [
@@ -135,5 +118,28 @@ begin_at nodes root limit node has here =
     let chain = has.1.chain in
     (at_live nodes root node (chain.begin, chain.begin_there) here, ap (λ r. r.start) (node_range nodes root node chain.begin here chain.begin_there) ∙ chain.begin_start)
 
-pub from_chain : (nodes : List (Option Node)) (root limit : ℕ) → HasBlockFrom nodes root limit → HasChain nodes
-from_chain nodes root limit has = (has.0, root, has.1.bound, has.1.chain)
+-- where a walk begins
+pub before_at : (nodes : List (Option Node)) (r : Request) (limit slot : ℕ) (node : Node) → NoneBefore nodes r limit slot → get_or nodes slot None ≡ Some node → IsAt nodes slot node × NoneBelow nodes r limit node.start
+before_at nodes r limit slot node has here = (
+  at_live nodes slot node (has.0, has.1) here,
+  subst (NoneBelow nodes r limit) (sym (ap (λ q. q.start) (node_range nodes slot node has.0 here has.1))) has.2,
+)
+
+pub before_first : (nodes : List (Option Node)) (r : Request) (limit whole root : ℕ) → IsBlock whole root nodes → NoneBefore nodes r limit root
+before_first nodes r limit whole root block =
+    let chain = block.chain in (chain.begin, chain.begin_there, λ s less h. (let starts = chain.begin_start in omega (arith, less, starts)))
+
+pub before_byte : (nodes : List (Option Node)) (r : Request) (limit slot low : ℕ) → NoneBelow nodes r limit low → IsSlotOf nodes slot low → NoneBefore nodes r limit slot
+before_byte nodes r limit slot low below has = (has.0, has.1, λ s less h. below s (omega (arith, less, has.2)) h)
+
+pub byte_below : (nodes : List (Option Node)) (limit whole root byte : ℕ) → IsBlock whole root nodes → limit ≤ whole → byte < limit → HasByte nodes byte
+byte_below nodes limit whole root byte block inside less = (whole, root, block.bound, block.chain, omega (arith, inside, less))
+
+pub not_last : (nodes : List (Option Node)) (byte slot : ℕ) (node : Node) → HasByte nodes byte → IsAt nodes slot node → node.start + node.size ≤ byte → node.after ≡ None → ⊥
+not_last nodes byte slot node has at before none =
+    let ends = (has.3.linked slot (range node) (node_seen nodes slot node at.here at.some)).last none in
+    let within = has.4 in
+    omega arith
+
+pub byte_chain : (nodes : List (Option Node)) (byte : ℕ) → HasByte nodes byte → HasChain nodes
+byte_chain nodes byte has = (has.0, has.1, has.2, has.3)

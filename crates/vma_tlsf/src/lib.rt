@@ -10,7 +10,7 @@
 //! let first = block.allocate(1024, 16, Kind::Linear)?;     // 0
 //! block.allocate(1024, 16, Kind::Linear)?;                 // 1024
 //! block.free(first);
-//! block.allocate_below(512, 16, Kind::Linear, 1024)?;      // 0
+//! block.allocate_below(512, 16, Kind::Linear, 0, 1024)?;   // 0
 //! ```
 //!
 //! Contracts see the ranges that are taken. The lists by size, and where a search begins, are hints:
@@ -19,6 +19,7 @@
 
 mod changes;
 mod lists;
+mod near;
 mod places;
 mod ranges;
 mod steps;

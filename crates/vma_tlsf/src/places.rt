@@ -4,7 +4,7 @@ ghost use Rattle.vk_model.specs.Memory.Suballocation.{IsRequest, IsLargestFree};
 ghost use Rattle.vk_model.specs.Memory.Room.{fits, is_none_left};
 ghost use Rattle.vma_tlsf.specs.Inner.Chain.{range, seen, taken_in};
 ghost use Rattle.vma_tlsf.specs.Inner.Changes.{HasChain};
-ghost use Rattle.vma_tlsf.specs.Inner.Fits.{is_other, low_of, high_of, IsBlock, HasBlock, HasBlockFrom, IsFreeNode, IsLowestIn, IsPlaceFor, NoneBelow, free_size, IsNodeOf, IsLive, StartsAt, IsSlotAt};
+ghost use Rattle.vma_tlsf.specs.Inner.Fits.{is_other, low_of, high_of, IsBlock, HasBlock, IsFreeNode, IsLowestIn, IsPlaceFor, NoneBelow, NoneBefore, free_size, IsNodeOf};
 ghost use Rattle.vma_tlsf.specs.Inner.Wants.{request_of_want};
 ghost use Rattle.vma_tlsf.specs.Inner.Wants.{state_of};
 
@@ -203,18 +203,20 @@ fn lowest_in(nodes: &Filled, node: Node, want: Want, limit: u64) -> Option<u64>
     }
 }
 
-/// The lowest place of the block that ends at or below the limit.
-pub(crate) fn lowest_place(nodes: &Filled, first: u32, want: Want, limit: u64) -> Option<Place>
-    requires block { HasBlockFrom nodes.now first limit }
+/// The lowest place of the block that ends at or below the limit, by a walk from a range before which
+/// there is none.
+pub(crate) fn lowest_place(nodes: &Filled, from: u32, want: Want, limit: u64) -> Option<Place>
+    requires block { HasBlock nodes.now limit }
     requires request { IsRequest want.size want.align }
     requires bound { want.size < 2 ^ 62 }
+    requires from { NoneBefore nodes.now (request_of_want want) limit from }
     ensures some { IfSome result (λ place. IsPlaceFor nodes.now (request_of_want want) limit place.slot place.start) }
     ensures lowest { IfSome result (λ place. NoneBelow nodes.now (request_of_want want) limit place.start) }
     ensures none { result ≡ None → (start : ℕ) → IsTrue (fits (taken_in nodes.now) (request_of_want want) 0 limit start) → ⊥ }
 {
-    let mut slot = first;
+    let mut slot = from;
     let mut node = nodes.get(slot);
-    'walk: loop {
+    'walk: while node.start < limit {
         if let Some(start) = lowest_in(nodes, node, want, limit) {
             return Some(Place { slot, start });
         }
@@ -224,6 +226,7 @@ pub(crate) fn lowest_place(nodes: &Filled, first: u32, want: Want, limit: u64) -
         slot = after;
         node = nodes.get(slot);
     }
+    None
 }
 
 /// A place for a request, if it fits anywhere in the block. A search by size asks for `more` bytes.
@@ -302,30 +305,4 @@ fn free_bytes(node: Node) -> u64
     } else {
         0
     }
-}
-
-/// The slot of the range that starts here, by a walk from some range.
-pub(crate) fn slot_from(nodes: &Filled, some: u32, start: u64) -> u32
-    requires chain { HasChain nodes.now }
-    requires some { IsLive nodes.now some }
-    requires there { StartsAt nodes.now start }
-    ensures { IsSlotAt nodes.now result start }
-{
-    let mut slot = some;
-    let mut node = nodes.get(slot);
-    'back: while node.start > start {
-        let Some(before) = node.before else {
-            unreachable!()
-        };
-        slot = before;
-        node = nodes.get(slot);
-    }
-    'on: while node.start < start {
-        let Some(after) = node.after else {
-            unreachable!()
-        };
-        slot = after;
-        node = nodes.get(slot);
-    }
-    slot
 }

@@ -3,16 +3,14 @@ ghost use Rattle.vma_tlsf.specs.Inner.Steps.{AreAlike};
 ghost use Rattle.vma_tlsf.specs.Inner.Wants.{taken_of_want};
 ghost use Rattle.vma_tlsf.specs.Inner.Fits.{whole_node};
 ghost use Rattle.vma_tlsf.specs.Inner.Changes.{HasChain, IsPlaceIn, TakesMore};
-ghost use Rattle.vma_tlsf.specs.Inner.Fits.{IsLive, StartsAt, IsSlotAt};
 ghost use Rattle.vma_tlsf.specs.Inner.Chain.{taken_in};
 ghost use Rattle.vma_tlsf.specs.Inner.Listed.{IsTakenHere, IsTakenBy};
 ghost use Rattle.vk_model.specs.Memory.TakenRanges.{taken_of};
 
 use crate::changes::{put, release};
 use crate::lists::Lists;
-use crate::places::{
-    Place, Want, find_place, is_all_free, longest_free, lowest_place, slot_from, smaller,
-};
+use crate::near::{lowest_from, set_near, set_near_freed, slot_near};
+use crate::places::{Place, Want, find_place, is_all_free, longest_free, smaller};
 use crate::ranges::ranges_of;
 use crate::steps::{MOST_ADDED, fresh};
 use std::alloc::{AllocError, Global};
@@ -22,20 +20,6 @@ use vk_nodes::{Filled, Node, RangeState};
 
 /// What a search of a block for resources of both kinds asks for more: two pages, in bytes.
 const TWO_PAGES: u64 = 2048;
-
-/// The bytes for which one slot that is likely to be near is remembered.
-const NEAR: u64 = 512;
-
-/// How far from these bytes the range of that slot may start.
-const MOST_APART: u64 = 1024;
-
-/// The slot of a range that was looked for.
-#[derive(Clone, Copy)]
-struct Found {
-    slot: u32,
-    /// Whether it is remembered for the range's start.
-    is_remembered: bool,
-}
 
 /// A block of memory of which ranges are taken.
 #[derive(Drop)]
@@ -68,7 +52,7 @@ impl Tlsf {
     ghost use Rattle.vk_model.specs.Memory.Suballocation.{IsRequest, IsTakenAt, Puts};
     ghost use Rattle.vk_model.specs.Memory.Room.{lowest, is_none_left};
     ghost use Rattle.vk_model.specs.Memory.LinearBlocks.{others};
-    ghost use Rattle.vma_tlsf.specs.Block.{taken as all_taken};
+    ghost use Rattle.vma_tlsf.specs.Block.{taken as all_taken, IsExhaustedBelow};
 
     /// A block of `size` bytes, of which nothing is taken.
     pub fn new(alloc: Global, size: u64) -> Result<Tlsf, AllocError>
@@ -111,15 +95,17 @@ impl Tlsf {
     }
 
     /// As `allocate`, ending at or below `limit`, at the lowest such place. `NoRoom` is answered
-    /// where there is none.
+    /// where there is none. The search begins at `low`, below which the request fits nowhere.
     pub fn allocate_below(
         &mut self,
         bytes: u64,
         align: u64,
         kind: Kind,
+        low: u64,
         limit: u64,
     ) -> Result<u64, SubFault>
-        requires { IsRequest bytes align }
+        requires request { IsRequest bytes align }
+        requires low { IsExhaustedBelow self.old.size (all_taken self.old) (record { size = bytes; align = align; kind = kind }) low }
         ensures ok { IfOk result (λ start. Puts (all_taken self.old) (all_taken self.new) (record { size = bytes; align = align; kind = kind }) start) }
         ensures lowest { IfOk result (λ start. lowest (all_taken self.old) (record { size = bytes; align = align; kind = kind }) 0 (min limit self.old.size) ≡ Some start) }
         ensures no_room { IsErrOf result SubFault.NoRoom → lowest (all_taken self.old) (record { size = bytes; align = align; kind = kind }) 0 (min limit self.old.size) ≡ None }
@@ -134,7 +120,8 @@ impl Tlsf {
         if bytes > self.size {
             return Err(SubFault::NoRoom);
         }
-        let found = lowest_place(&self.nodes, self.first, want, smaller(limit, self.size));
+        let high = smaller(limit, self.size);
+        let found = lowest_from(&self.nodes, &self.near, self.first, want, low, high);
         take(
             &mut self.nodes,
             &mut self.lists,
@@ -144,9 +131,18 @@ impl Tlsf {
         )
     }
 
-    /// The lowest place of a request that ends at or below `limit`, of which nothing is taken.
-    pub fn lowest_below(&self, bytes: u64, align: u64, kind: Kind, limit: u64) -> Option<u64>
-        requires { IsRequest bytes align }
+    /// The lowest place of a request that ends at or below `limit`, of which nothing is taken. The
+    /// search begins at `low`, below which the request fits nowhere.
+    pub fn lowest_below(
+        &self,
+        bytes: u64,
+        align: u64,
+        kind: Kind,
+        low: u64,
+        limit: u64,
+    ) -> Option<u64>
+        requires request { IsRequest bytes align }
+        requires low { IsExhaustedBelow self.now.size (all_taken self.now) (record { size = bytes; align = align; kind = kind }) low }
         ensures { result ≡ lowest (all_taken self.now) (record { size = bytes; align = align; kind = kind }) 0 (min limit self.now.size) }
     {
         let want = Want {
@@ -158,7 +154,7 @@ impl Tlsf {
             return None;
         }
         let high = smaller(limit, self.size);
-        let found = lowest_place(&self.nodes, self.first, want, high);
+        let found = lowest_from(&self.nodes, &self.near, self.first, want, low, high);
         match found {
             Some(place) => Some(place.start),
             None => None,
@@ -265,93 +261,6 @@ fn take(
     };
     set_near(near, place.start, slot);
     Ok(place.start)
-}
-
-/// Remembers a slot whose range is near a start.
-fn set_near(near: &mut Vec<u32>, start: u64, slot: u32) {
-    let place = (start / NEAR) as usize;
-    if place >= near.len() {
-        reach(near, place);
-    }
-    if let Some(remembered) = near.get_mut(place) {
-        *remembered = slot;
-    }
-}
-
-/// Remembers the slot of a range that is free now, unless it was remembered, or a range before it took
-/// it in: that one may start far from here.
-fn set_near_freed(near: &mut Vec<u32>, start: u64, found: Found, joined: u32) {
-    if !found.is_remembered && joined == found.slot {
-        set_near(near, start, found.slot);
-    }
-}
-
-/// Lets there be a place for a slot that is remembered, unless memory is wanting.
-#[cold]
-#[inline(never)]
-fn reach(near: &mut Vec<u32>, place: usize) {
-    let _ = near.resize(place.saturating_add(1), 0);
-}
-
-/// The slot of the range that starts here.
-fn slot_near(nodes: &Filled, near: &Vec<u32>, first: u32, start: u64) -> Found
-    requires chain { HasChain nodes.now }
-    requires first { IsLive nodes.now first }
-    requires there { StartsAt nodes.now start }
-    ensures { IsSlotAt nodes.now result.slot start }
-{
-    match slot_here(nodes, near, start) {
-        Some(slot) => Found {
-            slot,
-            is_remembered: true,
-        },
-        None => Found {
-            slot: slot_around(nodes, near, first, start),
-            is_remembered: false,
-        },
-    }
-}
-
-/// The slot that is remembered for a start, if its range starts there.
-fn slot_here(nodes: &Filled, near: &Vec<u32>, start: u64) -> Option<u32>
-    ensures { IfSome result (λ slot. IsSlotAt nodes.now slot start) }
-{
-    let slot = *near.get((start / NEAR) as usize)?;
-    let node = nodes.find(slot)?;
-    if node.size > 0 && node.start == start {
-        Some(slot)
-    } else {
-        None
-    }
-}
-
-/// The slot of the range that starts here, by a walk from the nearest one that is remembered.
-#[inline(never)]
-fn slot_around(nodes: &Filled, near: &Vec<u32>, first: u32, start: u64) -> u32
-    requires chain { HasChain nodes.now }
-    requires first { IsLive nodes.now first }
-    requires there { StartsAt nodes.now start }
-    ensures { IsSlotAt nodes.now result start }
-{
-    for place in (0..=start / NEAR).rev() {
-        if let Some(slot) = remembered(nodes, near, place) {
-            return slot_from(nodes, slot, start);
-        }
-    }
-    slot_from(nodes, first, start)
-}
-
-/// The slot that is remembered here, if its range is still near.
-fn remembered(nodes: &Filled, near: &Vec<u32>, place: u64) -> Option<u32>
-    ensures { IfSome result (λ slot. IsLive nodes.now slot) }
-{
-    let slot = *near.get(place as usize)?;
-    let node = nodes.find(slot)?;
-    if node.size > 0 && node.start.abs_diff(place.saturating_mul(NEAR)) <= MOST_APART {
-        Some(slot)
-    } else {
-        None
-    }
 }
 
 /// A free range of a whole block.

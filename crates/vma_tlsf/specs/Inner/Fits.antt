@@ -72,6 +72,10 @@ HasBlockFrom nodes root limit = (whole : ℕ) × IsBlock whole root nodes × (li
 abbrev pub NoneBelow : List (Option Node) → Request → ℕ → ℕ → Type 0
 NoneBelow nodes r limit start = (other : ℕ) → other < start → IsTrue (fits (taken_in nodes) r 0 limit other) → ⊥
 
+-- The slot has a range, before which a request fits nowhere.
+abbrev pub NoneBefore : List (Option Node) → Request → ℕ → ℕ → Type 0
+NoneBefore nodes r limit slot = (q : Range) × (seen nodes slot ≡ Some q) × NoneBelow nodes r limit q.start
+
 -- The node is that of a slot, and has bytes.
 abbrev pub IsNodeOf : List (Option Node) → Node → Type 0
 IsNodeOf nodes node = (slot : ℕ) × (get_or nodes slot None ≡ Some node) × (0 < node.size)
@@ -80,9 +84,13 @@ IsNodeOf nodes node = (slot : ℕ) × (get_or nodes slot None ≡ Some node) × 
 abbrev pub IsLive : List (Option Node) → ℕ → Type 0
 IsLive nodes slot = (r : Range) × (seen nodes slot ≡ Some r)
 
--- Some range starts here.
-abbrev pub StartsAt : List (Option Node) → ℕ → Type 0
-StartsAt nodes start = (slot : ℕ) × (r : Range) × (seen nodes slot ≡ Some r) × (r.start ≡ start)
+-- The slots have the ranges of some block, which has this byte.
+abbrev pub HasByte : List (Option Node) → ℕ → Type 0
+HasByte nodes byte = (whole : ℕ) × (root : ℕ) × (whole < 2 ^ 62) × IsChain whole root (seen nodes) × (byte < whole)
+
+-- The range of the slot has this byte.
+abbrev pub IsSlotOf : List (Option Node) → ℕ → ℕ → Type 0
+IsSlotOf nodes slot byte = (r : Range) × (seen nodes slot ≡ Some r) × (r.start ≤ byte) × (byte < r.start + r.size)
 
 -- The range of the slot starts here.
 abbrev pub IsSlotAt : List (Option Node) → ℕ → ℕ → Type 0

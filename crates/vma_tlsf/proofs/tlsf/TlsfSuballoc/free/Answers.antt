@@ -1,11 +1,11 @@
 use Rattle.std.proofs.Common.{subst}
 use Rattle.vk_model.specs.Memory.Suballocation.{IsTakenAt}
-use Rattle.vma_tlsf.proofs.Freed.{now_taken, starts_there, found_taken, freed_block, freed_seen}
+use Rattle.vma_tlsf.proofs.Freed.{now_taken, byte_there, found_taken, freed_block, freed_seen}
 use Rattle.vma_tlsf.proofs.tlsf.TlsfSuballoc.free.Goals as goal
 
 pub slot_near-found-requires-clause-there : goal.slot_near-found-requires-clause-there
 slot_near-found-requires-clause-there c =
-    starts_there c.self.inside.nodes c.args.start (subst (IsTakenAt c.args.start) (now_taken c.self.inside.size c.self.inside.first c.self.inside.nodes c.args.self.now c.self.invariant.block c.self.view_is) c.requires)
+    byte_there c.self.inside.size c.self.inside.first c.self.inside.nodes c.args.start c.self.invariant.block (subst (IsTakenAt c.args.start) (now_taken c.self.inside.size c.self.inside.first c.self.inside.nodes c.args.self.now c.self.invariant.block c.self.view_is) c.requires)
 
 pub release-joined-requires-clause-there : goal.release-joined-requires-clause-there
 release-joined-requires-clause-there c =
