@@ -45,19 +45,29 @@ impl PoolBlock for AnyBlock {
         bytes: u64,
         align: u64,
         kind: Kind,
+        low: u64,
         limit: u64,
     ) -> Result<u64, SubFault> {
         match self {
             AnyBlock::General(block) => {
-                general::allocate_below(block, bytes, align, kind, limit)
+                general::allocate_below(block, bytes, align, kind, low, limit)
             }
             AnyBlock::Stack(_) => unreachable!(),
         }
     }
 
-    fn lowest_below(&self, bytes: u64, align: u64, kind: Kind, limit: u64) -> Option<u64> {
+    fn lowest_below(
+        &self,
+        bytes: u64,
+        align: u64,
+        kind: Kind,
+        low: u64,
+        limit: u64,
+    ) -> Option<u64> {
         match self {
-            AnyBlock::General(block) => { general::lowest_below(block, bytes, align, kind, limit) }
+            AnyBlock::General(block) => {
+                general::lowest_below(block, bytes, align, kind, low, limit)
+            }
             AnyBlock::Stack(_) => unreachable!(),
         }
     }

@@ -2,6 +2,7 @@ ghost use Rattle.std.specs.Prelude.{◌≡◌, Some, None, false, min, IfOk, OnE
 ghost use Rattle.vk_model.specs.Memory.Suballocation.{IsRequest, IsTakenAt, IsLargestFree};
 ghost use Rattle.vk_model.specs.Memory.Room.{Block, BlockHolds, is_none_left, lowest};
 ghost use Rattle.vk_model.specs.Memory.Pools.{BlockGives, block_bytes, block_taken, block_with, block_without, new_block};
+ghost use Rattle.vma_tlsf.specs.Block.{IsExhaustedBelow};
 ghost use Rattle.vma_blocks.specs.Alike.{IsAlike, IsGeneral};
 ghost use Rattle.vma_blocks.specs.PoolInfos.{IsPoolInfo};
 
@@ -27,16 +28,18 @@ pub trait PoolBlock: Sized + Drop {
         ensures err { OnErr result (block self.new ≡ block self.old) };
 
     /// Takes the lowest range that ends at or below a limit, and answers its start in bytes, in a block
-    /// that can be defragmented.
+    /// that can be defragmented. The search begins at `low`, below which the request fits nowhere.
     fn allocate_below(
         &mut self,
         bytes: u64,
         align: u64,
         kind: Kind,
+        low: u64,
         limit: u64,
     ) -> Result<u64, SubFault>
         requires request { IsRequest bytes align }
         requires general { IsGeneral (block self.old) }
+        requires low { IsExhaustedBelow (block_bytes (block self.old)) (block_taken (block self.old)) (record { size = bytes; align = align; kind = kind }) low }
         ensures ok { IfOk result (λ start.
             (lowest (block_taken (block self.old)) (record { size = bytes; align = align; kind = kind }) 0 (min limit (block_bytes (block self.old))) ≡ Some start)
             × IsAlike (block_with (block self.old) (record { size = bytes; align = align; kind = kind }) false start) (block self.new)) }
@@ -44,10 +47,12 @@ pub trait PoolBlock: Sized + Drop {
         ensures err { OnErr result (block self.new ≡ block self.old) };
 
     /// The lowest range for a request that ends at or below a limit, by its start in bytes, in a block
-    /// that can be defragmented; none where there is no such range.
-    fn lowest_below(&self, bytes: u64, align: u64, kind: Kind, limit: u64) -> Option<u64>
+    /// that can be defragmented; none where there is no such range. The search begins at `low`, below
+    /// which the request fits nowhere.
+    fn lowest_below(&self, bytes: u64, align: u64, kind: Kind, low: u64, limit: u64) -> Option<u64>
         requires request { IsRequest bytes align }
         requires general { IsGeneral (block self.now) }
+        requires low { IsExhaustedBelow (block_bytes (block self.now)) (block_taken (block self.now)) (record { size = bytes; align = align; kind = kind }) low }
         ensures { result ≡ lowest (block_taken (block self.now)) (record { size = bytes; align = align; kind = kind }) 0 (min limit (block_bytes (block self.now))) };
 
     /// Gives back the range that starts here.

@@ -3,7 +3,7 @@ ghost use Rattle.std.specs.Prelude.{◌≡◌, Some, None, false, [], min, IfOk,
 ghost use Rattle.vk_model.specs.Memory.Suballocation.{IsRequest, IsTakenAt, IsLargestFree};
 ghost use Rattle.vk_model.specs.Memory.Room.{General, BlockHolds, is_none_left, lowest};
 ghost use Rattle.vk_model.specs.Memory.Pools.{BlockGives, block_with, block_without};
-ghost use Rattle.vma_tlsf.specs.Block.{taken};
+ghost use Rattle.vma_tlsf.specs.Block.{taken, IsExhaustedBelow};
 ghost use Rattle.vma_blocks.specs.Alike.{IsAlike};
 ghost use Rattle.vma_blocks.specs.Blocks.{general_block};
 ghost use Rattle.vma_blocks.specs.PoolInfos.{IsPoolInfo};
@@ -43,36 +43,42 @@ pub(crate) fn allocate(
     block.allocate(bytes, align, kind)
 }
 
-/// Takes the lowest range that ends at or below a limit, and answers its start in bytes.
+/// Takes the lowest range that ends at or below a limit, and answers its start in bytes. The search
+/// begins at `low`.
 pub(crate) fn allocate_below(
     block: &mut Tlsf,
     bytes: u64,
     align: u64,
     kind: Kind,
+    low: u64,
     limit: u64,
 ) -> Result<u64, SubFault>
-    requires { IsRequest bytes align }
+    requires request { IsRequest bytes align }
+    requires low { IsExhaustedBelow block.old.size (taken block.old) (record { size = bytes; align = align; kind = kind }) low }
     ensures ok { IfOk result (λ start.
         (lowest (taken block.old) (record { size = bytes; align = align; kind = kind }) 0 (min limit block.old.size) ≡ Some start)
         × IsAlike (block_with (general_block block.old) (record { size = bytes; align = align; kind = kind }) false start) (general_block block.new)) }
     ensures no_room { IsErrOf result SubFault.NoRoom → lowest (taken block.old) (record { size = bytes; align = align; kind = kind }) 0 (min limit block.old.size) ≡ None }
     ensures err { OnErr result (general_block block.new ≡ general_block block.old) }
 {
-    block.allocate_below(bytes, align, kind, limit)
+    block.allocate_below(bytes, align, kind, low, limit)
 }
 
-/// The lowest range for a request that ends at or below a limit, by its start in bytes.
+/// The lowest range for a request that ends at or below a limit, by its start in bytes. The search
+/// begins at `low`.
 pub(crate) fn lowest_below(
     block: &Tlsf,
     bytes: u64,
     align: u64,
     kind: Kind,
+    low: u64,
     limit: u64,
 ) -> Option<u64>
-    requires { IsRequest bytes align }
+    requires request { IsRequest bytes align }
+    requires low { IsExhaustedBelow block.now.size (taken block.now) (record { size = bytes; align = align; kind = kind }) low }
     ensures { result ≡ lowest (taken block.now) (record { size = bytes; align = align; kind = kind }) 0 (min limit block.now.size) }
 {
-    block.lowest_below(bytes, align, kind, limit)
+    block.lowest_below(bytes, align, kind, low, limit)
 }
 
 /// Gives back the range that starts here.

@@ -13,8 +13,8 @@
 //! block.allocate_below(512, 16, Kind::Linear, 0, 1024)?;   // 0
 //! ```
 //!
-//! Contracts see the ranges that are taken. The lists by size, and where a search begins, are hints:
-//! what they lead to is looked at before it is used, and no contract rests on them.
+//! Contracts see the ranges that are taken. The lists by size, and the slots that are remembered for
+//! bytes, are hints: what they lead to is looked at before it is used, and no contract rests on them.
 #![tactic(auto)]
 
 mod changes;
