@@ -49,24 +49,45 @@ none-kept (b ∷ bs) (suc i) n lt all e =
 -- ---- where the block of a number is
 
 module _ {B : Type 0} (xs : List (Held B)) (n : ℕ) (rising : AllPairs (λ a b. a.number < b.number) xs) (m : ℕ) (x : Held B) (within : m < length xs) where
-  -- it is after one with a lower number
-  pub after-lower : (get_or xs m x).number < n → (k : ℕ) (d : Held B) → k < length xs → (get_or xs k d).number ≡ n → m < k
-  after-lower low k d lt e =
+  rises : (k : ℕ) (d : Held B) → k < m → (get_or xs k d).number < (get_or xs m x).number
+  rises k d less =
+      let same : (get_or xs k d).number ≡ (get_or xs k x).number = ap (λ (h : Held B). h.number) (get_or_default xs k d x (omega (arith, less, within))) in
+      omega (arith, rising k m x less within, same)
+
+  -- up to one with a lower number all have a lower one
+  pub lower-before : (get_or xs m x).number < n → (k : ℕ) (d : Held B) → k < m + 1 → (get_or xs k d).number < n
+  lower-before low k d less = elim (cases_lt k m) [
+    | inl l ↦ omega (arith, rises k d l, low)
+    | inr h ↦
+        let here : k ≡ m = omega (arith, h, less) in
+        omega (arith, ap (λ (j : ℕ). (get_or xs j d).number) here, ap (λ (h : Held B). h.number) (get_or_default xs m d x within), low)
+  ]
+
+  -- from one with a number that isn't lower on none has a lower one
+  pub none_lower-from : n ≤ (get_or xs m x).number → (k : ℕ) (d : Held B) → m ≤ k → k < length xs → n ≤ (get_or xs k d).number
+  none_lower-from high k d le lt =
       let same : (get_or xs k d).number ≡ (get_or xs k x).number = ap (λ (h : Held B). h.number) (get_or_default xs k d x lt) in
       elim (cases_lt m k) [
-        | inl l ↦ l
-        | inr g ↦ elim (cases_lt k m) [
-          | inl l ↦ absurd (omega (arith, rising k m x l within, low, e, same))
-          | inr h ↦ let here : k ≡ m = omega (arith, g, h) in
-              absurd (omega (arith, ap (λ (j : ℕ). (get_or xs j x).number) here, low, e, same))
-        ]
+        | inl l ↦ omega (arith, rising m k x l lt, high, same)
+        | inr h ↦
+            let here : k ≡ m = omega (arith, h, le) in
+            omega (arith, ap (λ (j : ℕ). (get_or xs j x).number) here, high, same)
       ]
 
-  -- it is not after one with a number that isn't lower
-  pub not-after : n ≤ (get_or xs m x).number → (k : ℕ) (d : Held B) → k < length xs → (get_or xs k d).number ≡ n → k ≤ m
-  not-after high k d lt e =
-      let same : (get_or xs k d).number ≡ (get_or xs k x).number = ap (λ (h : Held B). h.number) (get_or_default xs k d x lt) in
-      elim (cases_lt m k) [ inl l ↦ absurd (omega (arith, rising m k x l lt, high, e, same)) | inr g ↦ g ]
+-- the first whose number isn't lower is that of the number
+pub first-of-number : {B : Type 0} (xs : List (Held B)) (n i : ℕ) → AllPairs (λ a b. a.number < b.number) xs → Any (λ held. held.number ≡ n) xs → i ≤ length xs
+    → ((k : ℕ) (d : Held B) → k < i → (get_or xs k d).number < n) → ((k : ℕ) (d : Held B) → i ≤ k → k < length xs → n ≤ (get_or xs k d).number) → (i < length xs) × ((d : Held B) → (get_or xs i d).number ≡ n)
+first-of-number {B = B} xs n i rising any within before from =
+    let j = any.0 in
+    let is : (d : Held B) → (get_or xs j d).number ≡ n = λ d. ap (λ (h : Held B). h.number) (get_or_default xs j d any.1 any.2 ∙ any.3) ∙ any.4 in
+    let le : i ≤ j = elim (cases_lt j i) [ inl l ↦ absurd (omega (arith, before j any.1 l, is any.1)) | inr g ↦ g ] in
+    let lt : i < length xs = omega (arith, le, any.2) in (
+      lt,
+      λ d. elim (cases_lt i j) [
+        | inl l ↦ absurd (omega (arith, rising i j d l any.2, from i d (omega arith) lt, is d))
+        | inr g ↦ let here : i ≡ j = omega (arith, g, le) in ap (λ (k : ℕ). (get_or xs k d).number) here ∙ is d
+      ],
+    )
 
 -- ---- what is seen of the blocks that are held
 

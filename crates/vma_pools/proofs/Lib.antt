@@ -7,6 +7,8 @@ mod FreeLemmas
 mod KindLemmas
 mod LowerLemmas
 mod TargetLemmas
+pub mod Exhausted
+mod SearchLemmas
 mod LargestLemmas
 pub mod RangeLemmas
 pub mod AlikeRanges
@@ -18,6 +20,7 @@ pub mod BacksLemmas
 pub mod ReleaseLemmas
 pub mod ReservedLemmas
 pub mod MovingLemmas
+pub mod ExhaustedFor
 pub mod CountLemmas
 pub mod CountedLemmas
 pub mod SettledLemmas

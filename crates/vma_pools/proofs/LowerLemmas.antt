@@ -27,7 +27,29 @@ passed_over p a (suc n) k e le lt = go (p a) refl e (λ found later. passed_over
     go false is found rest =
         elim (cases_lt a k) [ inl later ↦ rest found later | inr here ↦ let same : k ≡ a = omega (arith, here, le) in ap p same ∙ is ]
 
-none-fits : (taken : List Taken) (r : Request) (high start : ℕ) → lowest taken r 0 high ≡ None → IsTrue (fits taken r 0 high start) → ⊥
+-- what comes before the one that is found fails the test
+passed_before : (p : ℕ → Bool) (a n s k : ℕ) → find p (range_with_len a n) ≡ Some s → a ≤ k → k < s → p k ≡ false
+passed_before p a zero s k e le lt = absurd cc
+passed_before p a (suc n) s k e le lt = go (p a) refl e (λ found later. passed_before p (a + 1) n s k found (omega (arith, later)) lt)
+  where
+    go : (v : Bool) → p a ≡ v → cond v (Some a) (find p (range_with_len (a + 1) n)) ≡ Some s → (find p (range_with_len (a + 1) n) ≡ Some s → a < k → p k ≡ false) → p k ≡ false
+    go true is found rest =
+        let same : a ≡ s = cc in absurd (omega (arith, same, le, lt))
+    go false is found rest =
+        elim (cases_lt a k) [ inl later ↦ rest found later | inr here ↦ let same : k ≡ a = omega (arith, here, le) in ap p same ∙ is ]
+
+-- where all fail the test none is found
+none_found : (p : ℕ → Bool) (xs : List ℕ) → ((x : ℕ) → p x ≡ false) → find p xs ≡ None
+none_found p [] fails = refl
+none_found p (x ∷ xs) fails = ap (λ (v : Bool). cond v (Some x) (find p xs)) (fails x) ∙ none_found p xs fails
+
+pub none-lowest : (taken : List Taken) (r : Request) (high : ℕ) → ((start : ℕ) → fits taken r 0 high start ≡ false) → lowest taken r 0 high ≡ None
+none-lowest taken r high fails = none_found (fits taken r 0 high) (below (suc high)) fails
+
+pub none-before : (taken : List Taken) (r : Request) (high found start : ℕ) → lowest taken r 0 high ≡ Some found → start < found → fits taken r 0 high start ≡ false
+none-before taken r high found start e less = passed_before (fits taken r 0 high) 0 (suc high) found start e (omega arith) less
+
+pub none-fits : (taken : List Taken) (r : Request) (high start : ℕ) → lowest taken r 0 high ≡ None → IsTrue (fits taken r 0 high start) → ⊥
 none-fits taken r high start none fit =
     let inside : start + r.size ≤ high = (fitting taken r 0 high start fit).below in
     let fails : fits taken r 0 high start ≡ false = passed_over (fits taken r 0 high) 0 (suc high) start none (omega arith) (omega (arith, inside)) in

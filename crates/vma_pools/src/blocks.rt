@@ -1,4 +1,4 @@
-ghost use Rattle.std.specs.Prelude.{◌≡◌, ◌<◌, ◌≤◌, slice_index_or, All, AllPairs, Any, length, IfOk, OnErr, OnOk, IsErrOf};
+ghost use Rattle.std.specs.Prelude.{◌≡◌, ℕ, ◌<◌, ◌≤◌, slice_index_or, All, AllPairs, Any, length, IfOk, OnErr, OnOk, IsErrOf};
 ghost use Rattle.vk_model.specs.Memory.Suballocation.{IsRequest};
 ghost use Rattle.vk_model.specs.Memory.Pools.{BlockGives, IsLargestIn, block_with, new_block, numbered_blocks};
 ghost use Rattle.vma_pools.specs.Inner.Walk.{seen, objects, NoneBefore, IsTaken};
@@ -80,12 +80,13 @@ pub(crate) fn begin_block<B: PoolBlock>(
     }
 }
 
-/// The index of the block of a number.
-pub(crate) fn index_of<B>(blocks: &[Held<B>], number: u64) -> usize
+/// The index of the first block whose number is this one or above it; how many blocks there are where
+/// no block has such a number.
+pub(crate) fn first_from<B>(blocks: &[Held<B>], number: u64) -> usize
     requires rising { AllPairs (λ a b. a.number < b.number) blocks.now }
-    requires there { Any (λ held. held.number ≡ number) blocks.now }
-    ensures within { result < length blocks.now }
-    ensures found { (d : Held B) → (slice_index_or blocks.now result d).number ≡ number }
+    ensures within { result ≤ length blocks.now }
+    ensures before { (k : ℕ) (d : Held B) → k < result → (slice_index_or blocks.now k d).number < number }
+    ensures from { (k : ℕ) (d : Held B) → result ≤ k → k < length blocks.now → number ≤ (slice_index_or blocks.now k d).number }
 {
     let mut low = 0;
     let mut high = blocks.len();
@@ -98,6 +99,16 @@ pub(crate) fn index_of<B>(blocks: &[Held<B>], number: u64) -> usize
         }
     }
     low
+}
+
+/// The index of the block of a number.
+pub(crate) fn index_of<B>(blocks: &[Held<B>], number: u64) -> usize
+    requires rising { AllPairs (λ a b. a.number < b.number) blocks.now }
+    requires there { Any (λ held. held.number ≡ number) blocks.now }
+    ensures within { result < length blocks.now }
+    ensures found { (d : Held B) → (slice_index_or blocks.now result d).number ≡ number }
+{
+    first_from(blocks, number)
 }
 
 /// The length in bytes of the longest free range of a block; 0 where there is no block.

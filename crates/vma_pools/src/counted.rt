@@ -4,7 +4,8 @@ ghost use Rattle.vk_model.specs.Memory.Room.{NoRoomInPool};
 ghost use Rattle.vk_model.specs.Memory.Pools.{AreStatistics, empty_pool, numbered_blocks, pool_without, state_of};
 ghost use Rattle.vma_pools.specs.Pools.{HasNoTarget, HasTarget, IsMemoryOf, KeepsBlocks, Loses, Takes, TakesTarget, heaps};
 ghost use Rattle.vma_pools.specs.Ranges.{HasRange};
-ghost use Rattle.vma_pools.specs.State.{range_at, request_in};
+ghost use Rattle.vma_pools.specs.Exhausted.{IsExhausted};
+ghost use Rattle.vma_pools.specs.State.{range_at, request_in, start_of};
 ghost use Rattle.vma_blocks.specs.PoolInfos.{IsPoolInfo};
 ghost use Rattle.vma_pools.specs.Alike.{IsAlikePool};
 
@@ -128,15 +129,18 @@ impl<B: PoolBlock> CountedPool<B> {
 
     /// Takes the move target of what is at a place: the lowest place of the first earlier block
     /// that holds it, else the lowest of its own block that ends at or below its start; none where
-    /// there is no such place. The only error is want of memory.
+    /// there is no such place. The search begins at `low`, below which it fits nowhere. The only
+    /// error is want of memory.
     pub(crate) fn take_lower(
         &mut self,
         from: PoolPlace,
+        low: PoolPlace,
         asked: Asked,
     ) -> Result<Option<PoolPlace>, AllocError>
         requires request { IsRequest asked.size asked.align }
         requires general { self.old.pool.info.kind ≡ PoolKind.Tlsf }
         requires inside { from.start + asked.size ≤ self.old.pool.info.block_size }
+        requires low { IsExhausted self.old.pool (start_of low) (request_in asked) }
         ensures ok { IfOk result (λ o. MatchOption o
             (HasNoTarget self.old.pool (record { block = from.block; start = from.start }) (request_in asked) × (self.new ≡ self.old))
             (λ s. TakesTarget self.old self.new (record { block = from.block; start = from.start }) (request_in asked) (record { block = s.block; start = s.start }))) }
@@ -148,7 +152,7 @@ impl<B: PoolBlock> CountedPool<B> {
         }
         let Some(lower) = self
             .pool
-            .take_lower(from, asked.size, asked.align, asked.kind)?
+            .take_lower(from, low, asked.size, asked.align, asked.kind)?
         else {
             return Ok(None);
         };
@@ -157,18 +161,25 @@ impl<B: PoolBlock> CountedPool<B> {
         Ok(Some(lower))
     }
 
-    /// The move target of what is at a place, of which nothing is taken; none where there is none.
-    pub(crate) fn lower_place(&self, from: PoolPlace, asked: Asked) -> Option<PoolPlace>
+    /// The move target of what is at a place, of which nothing is taken; none where there is none. The
+    /// search begins at `low`, below which it fits nowhere.
+    pub(crate) fn lower_place(
+        &self,
+        from: PoolPlace,
+        low: PoolPlace,
+        asked: Asked,
+    ) -> Option<PoolPlace>
         requires request { IsRequest asked.size asked.align }
         requires general { self.now.pool.info.kind ≡ PoolKind.Tlsf }
         requires inside { from.start + asked.size ≤ self.now.pool.info.block_size }
+        requires low { IsExhausted self.now.pool (start_of low) (request_in asked) }
         ensures { MatchOption result
             (HasNoTarget self.now.pool (record { block = from.block; start = from.start }) (request_in asked))
             (λ s. HasTarget self.now.pool (record { block = from.block; start = from.start }) (request_in asked) (record { block = s.block; start = s.start })) }
     {
         self.pool.is_kept();
         self.pool
-            .lower_place(from, asked.size, asked.align, asked.kind)
+            .lower_place(from, low, asked.size, asked.align, asked.kind)
     }
 
     /// How much of the pool's memory is in use.

@@ -4,6 +4,7 @@ ghost use Rattle.vk_model.specs.Memory.Room.{BlockHolds, NoRoomInPool};
 ghost use Rattle.vk_model.specs.Memory.Pools.{IsLargestIn, empty_pool, numbered_blocks, pool_without, state_of};
 ghost use Rattle.vma_pools.specs.Pools.{HasNoTarget, HasTarget, HasTaken, IsMemoryOf, KeepsBlocks, Loses, TakesTarget, TakesOld, TakesNew};
 ghost use Rattle.vma_pools.specs.Pools.{Takes, heaps};
+ghost use Rattle.vma_pools.specs.Exhausted.{IsExhausted};
 ghost use Rattle.vk_memory.specs.MemoryState.{IsFull};
 ghost use Rattle.vma_blocks.specs.PoolInfos.{IsPoolInfo};
 ghost use Rattle.vma_pools.specs.Alike.{IsAlikePool};
@@ -186,10 +187,12 @@ impl<B: PoolBlock> PoolOf<B> {
 
     /// Takes the move target of what is at a place: the lowest place of the first earlier block
     /// that holds it, else the lowest of its own block that ends at or below its start; none where
-    /// there is no such place. The only error is want of memory.
+    /// there is no such place. The search begins at `low`, below which it fits nowhere. The only
+    /// error is want of memory.
     pub(crate) fn take_lower(
         &mut self,
         from: PoolPlace,
+        low: PoolPlace,
         bytes: u64,
         align: u64,
         kind: Kind,
@@ -197,6 +200,7 @@ impl<B: PoolBlock> PoolOf<B> {
         requires request { IsRequest bytes align }
         requires general { self.old.pool.info.kind ≡ PoolKind.Tlsf }
         requires inside { from.start + bytes ≤ self.old.pool.info.block_size }
+        requires low { IsExhausted self.old.pool (record { block = low.block; start = low.start }) (record { size = bytes; align = align; kind = kind }) }
         ensures ok { IfOk result (λ o. MatchOption o
             (HasNoTarget self.old.pool (record { block = from.block; start = from.start }) (record { size = bytes; align = align; kind = kind }) × (self.new ≡ self.old))
             (λ s. TakesTarget self.old self.new (record { block = from.block; start = from.start }) (record { size = bytes; align = align; kind = kind }) (record { block = s.block; start = s.start }))) }
@@ -209,7 +213,8 @@ impl<B: PoolBlock> PoolOf<B> {
             align,
             kind,
         };
-        let (index, start) = match take_below(&mut self.blocks, self.info.block_size, mover)? {
+        let size = self.info.block_size;
+        let (index, start) = match take_below(&mut self.blocks, size, mover, low)? {
             Some(lower) => lower,
             None => return Ok(None),
         };
@@ -219,10 +224,12 @@ impl<B: PoolBlock> PoolOf<B> {
         }))
     }
 
-    /// The move target of what is at a place, of which nothing is taken; none where there is none.
+    /// The move target of what is at a place, of which nothing is taken; none where there is none. The
+    /// search begins at `low`, below which it fits nowhere.
     pub(crate) fn lower_place(
         &self,
         from: PoolPlace,
+        low: PoolPlace,
         bytes: u64,
         align: u64,
         kind: Kind,
@@ -230,6 +237,7 @@ impl<B: PoolBlock> PoolOf<B> {
         requires request { IsRequest bytes align }
         requires general { self.now.pool.info.kind ≡ PoolKind.Tlsf }
         requires inside { from.start + bytes ≤ self.now.pool.info.block_size }
+        requires low { IsExhausted self.now.pool (record { block = low.block; start = low.start }) (record { size = bytes; align = align; kind = kind }) }
         ensures { MatchOption result
             (HasNoTarget self.now.pool (record { block = from.block; start = from.start }) (record { size = bytes; align = align; kind = kind }))
             (λ s. HasTarget self.now.pool (record { block = from.block; start = from.start }) (record { size = bytes; align = align; kind = kind }) (record { block = s.block; start = s.start })) }
@@ -241,7 +249,8 @@ impl<B: PoolBlock> PoolOf<B> {
             align,
             kind,
         };
-        let (index, start) = match place_below(&self.blocks, self.info.block_size, mover) {
+        let size = self.info.block_size;
+        let (index, start) = match place_below(&self.blocks, size, mover, low) {
             Some(lower) => lower,
             None => return None,
         };

@@ -1,5 +1,5 @@
 -- A walk over the blocks of a pool for a move target.
-use Rattle.std.specs.Prelude.{◌≡◌, ℕ, ◌<◌, List, length, get_or, set, Option, Some, None, false}
+use Rattle.std.specs.Prelude.{◌≡◌, ℕ, ◌<◌, ◌==◌, List, length, get_or, set, Option, Some, None, false, if◌then◌else◌}
 use Rattle.vk_model.specs.Memory.Suballocation.{Request}
 use Rattle.vk_model.specs.Memory.MoveTargets.{BlockStart, Numbered, place_in}
 use Rattle.vk_model.specs.Memory.Pools.{PoolBlock, block_bytes, block_taken, block_with}
@@ -34,3 +34,7 @@ pub record IsLowest (blocks : List PoolBlock) (from : BlockStart) (r : Request) 
   pub there : i < length blocks
   pub before : NoneLower blocks from r i
   pub target : lower_in from r (get_or blocks i no_block) ≡ Some (record { block = (get_or blocks i no_block).number; start = start })
+
+-- Where the search of a block of a number begins, where that of its pool begins at a place.
+abbrev pub start_in : BlockStart → ℕ → ℕ
+start_in low number = if number == low.block then low.start else 0

@@ -5,6 +5,7 @@ use Rattle.vk_model.specs.Memory.Suballocation.{Request}
 use Rattle.vk_model.specs.Memory.MoveTargets.{BlockStart}
 use Rattle.vma_pools.specs.declared.blocks.Held.{Held}
 use Rattle.vma_pools.specs.Pools.{Kept, HasNoTarget}
+use Rattle.vma_pools.specs.Exhausted.{IsExhausted}
 use Rattle.vma_pools.specs.Inner.Kinds.{IsKeptPool}
 use Rattle.vma_pools.specs.Inner.Walk.{kept_of}
 use Rattle.vma_pools.proofs.KindLemmas.{stays-taken}
@@ -52,3 +53,9 @@ returns-clause-ok g c =
     let view = ap (λ (l : List (Held g.row.B.Denot)). kept_of block f.info l f.next) c.deref_mut.ensures.value ∙ c.self.view_is in
     let ok = rw c.in-Some.is at c.in_ok-lower.ensures.ok in
     takes-target block f.info old new _ f.next h kind from r inside c.in-Some.lower.0 c.in-Some.lower.1 ok (with_items_is f.blocks new same) c.take_below.ensures.objects _ view c.index.result.now c.index.ensures
+
+pub take_below-requires-clause-low : goal.take_below-requires-clause-low
+take_below-requires-clause-low g c =
+    let f = c.self.inside in let block = g.B.PoolBlock.block in
+    let low : BlockStart = record { block = c.args.low.block; start = c.args.low.start } in let r : Request = record { size = c.args.bytes; align = c.args.align; kind = c.args.kind } in
+    subst (λ (l : List (Held g.row.B.Denot)). IsExhausted (kept_of block f.info l f.next).pool low r) (sym c.deref_mut.ensures.value) (subst (λ (k : Kept). IsExhausted k.pool low r) (sym c.self.view_is) c.requires.low)
