@@ -81,7 +81,7 @@ fn place(block: &mut Tlsf, request: Request) -> Result<u64, SubFault>
     let bytes = request.bytes();
     let align = request.align.bytes();
     match request.target {
-        Target::Below(limit) => block.allocate_below(bytes, align, request.kind, limit),
+        Target::Below(limit) => block.allocate_below(bytes, align, request.kind, 0, limit),
         Target::Anywhere | Target::Upper => block.allocate(bytes, align, request.kind),
     }
 }

@@ -105,7 +105,7 @@ fn expect_empty(rt: &impl Abort, block: &mut AnyBlock) {
 #[test]
 fn a_block_that_can_be_defragmented(rt: HostRuntime) -> Result<(), Fail> {
     let mut block = small(rt.alloc(), PoolKind::Tlsf, 1)?;
-    let below = block.allocate_below(32, 16, Kind::Linear, 24);
+    let below = block.allocate_below(32, 16, Kind::Linear, 0, 24);
     expect(&rt, "below", below, Err(SubFault::NoRoom));
     expect_places(&rt, &mut block, &FULL);
     let mut again = nothing_left(rt.alloc())?;

@@ -21,11 +21,11 @@ static QUARTERS: [Request; 3] = [(1024, Ok(0)), (1024, Ok(1024)), (1024, Ok(2048
 static NO_QUARTER: [Request; 1] = [(1024, Err(SubFault::NoRoom))];
 
 fn expect_full(rt: &impl Abort, block: &mut Tlsf) {
-    let below = block.allocate_below(512, 16, Kind::Linear, 256);
+    let below = block.allocate_below(512, 16, Kind::Linear, 0, 256);
     expect(rt, "below", below, Err(SubFault::NoRoom));
     expect_places(rt, block, &QUARTERS);
     expect(rt, "the longest", block.largest_free(), 1024);
-    let last = block.allocate_below(1024, 16, Kind::Linear, 4096);
+    let last = block.allocate_below(1024, 16, Kind::Linear, 0, 4096);
     expect(rt, "the last", last, Ok(3072));
     expect_places(rt, block, &NO_QUARTER);
 }
@@ -70,7 +70,7 @@ fn first_half_free(alloc: Global) -> Result<Tlsf, SubFault> {
 fn the_lowest_place_is_found(rt: HostRuntime) -> Result<(), Fail> {
     let mut block = first_half_free(rt.alloc())?;
     expect(&rt, "the longest", block.largest_free(), 2048);
-    let lowest = block.allocate_below(1024, 16, Kind::Linear, 4096);
+    let lowest = block.allocate_below(1024, 16, Kind::Linear, 0, 4096);
     expect(&rt, "the lowest", lowest, Ok(0));
     expect_taken(&rt, &block, &[0, 2048, 3072])?;
     Ok(())

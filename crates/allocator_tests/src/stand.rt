@@ -90,7 +90,8 @@ pub fn reserve(stand: &mut Stand, allocation: u64) -> Result<Option<PoolPlace>, 
         PoolKind::Tlsf => {}
         PoolKind::Linear => return Err("in a linear pool"),
     }
-    match stand.pools.reserve_lower(allocation) {
+    let start = PoolPlace { block: 0, start: 0 };
+    match stand.pools.reserve_lower(allocation, start) {
         Ok(target) => Ok(target),
         Err(AllocError) => Err("no memory"),
     }
