@@ -163,6 +163,19 @@ pub exhausted-longer : (p : Pool) (low : BlockStart) (r q : Request) → IsAsLar
 exhausted-longer p low r q large all k d lt start lower =
     let b : PoolBlock = get_or p.blocks k d in fails-longer (block_taken b.block) r q (block_bytes b.block) start large (all k d lt start lower)
 
+-- a place at or below one is such a place too
+pub exhausted-up_to : (p : Pool) (low least : BlockStart) (r : Request) → IsUpTo least low → IsExhausted p low r → IsExhausted p least r
+exhausted-up_to p low least r up all k d lt start lower = all k d lt start (higher up lower)
+  where
+    b : PoolBlock
+    b = get_or p.blocks k d
+
+    higher : IsUpTo least low → IsHigher least (record { block = b.number; start = start }) → IsHigher low (record { block = b.number; start = start })
+    higher (inl less) (inl before) = inl (omega (arith, less, before))
+    higher (inl less) (inr here) = inl (omega (arith, less, here.0))
+    higher (inr same) (inl before) = inl (omega (arith, same.0, before))
+    higher (inr same) (inr here) = inr (omega (arith, same.0, here.0), omega (arith, same.1, here.1))
+
 pub exhausted-alike : (p q : Pool) (low : BlockStart) (r : Request) → IsAlikePool p q → IsExhausted p low r → IsExhausted q low r
 exhausted-alike p q low r same all = all-alike (HasNoneBelow low r) (HasNoneBelow low r) one p.blocks q.blocks same.blocks all
   where

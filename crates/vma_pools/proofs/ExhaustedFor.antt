@@ -3,6 +3,8 @@ use Rattle.std.proofs.Common.{◌≡◌, ℕ, ◌≤◌, List, set, Option, Some
 use Rattle.std.specs.Prelude.{All, IsSomeAnd, MatchOption}
 use Rattle.std.proofs.lemmas.List.{set-get_or}
 use Rattle.vk_model.specs.declared.resource.PoolKind.TheVariants as algorithm
+use Rattle.vk_model.specs.Memory.Suballocation.{Request}
+use Rattle.vk_model.specs.Memory.MoveTargets.{BlockStart}
 use Rattle.vk_model.specs.Memory.Pools.{block_bytes}
 use Rattle.vma_pools.specs.declared.pool.PoolPlace.{PoolPlace}
 use Rattle.vma_pools.specs.declared.allocations.Allocation.{Allocation}
@@ -11,9 +13,9 @@ use Rattle.vma_pools.specs.declared.allocations.Home.TheVariants as home
 use Rattle.vma_pools.specs.Inner.Kinds.{IsKeptPool}
 use Rattle.vma_pools.specs.Pools.{Kept, HasNoTarget, HasTarget, TakesTarget}
 use Rattle.vma_pools.specs.Ranges.{HasRange}
-use Rattle.vma_pools.specs.State.{PoolsState, pool_at, allocation_at, range_at, request_in, start_of, ArePools, HasNoLower, IsMovable}
+use Rattle.vma_pools.specs.State.{PoolsState, pool_at, allocation_at, range_at, request_in, start_of, ArePools, HasNoLower, IfLive, IsMovable, IsReserved}
 use Rattle.vma_pools.specs.Exhausted.{IsExhausted, IsExhaustedFor, IsExhaustedBefore}
-use Rattle.vma_pools.proofs.CallLemmas.{its-pool}
+use Rattle.vma_pools.proofs.CallLemmas.{its-pool, live-holds}
 use Rattle.vma_pools.proofs.Exhausted.{IsUpTo, exhausted-no_target, exhausted-own, exhausted-start, exhausted-taken, exhausted-target}
 use Rattle.vma_pools.proofs.MovingLemmas.{range-inside}
 use Rattle.vma_pools.proofs.NumberLemmas.{at-below, at-set}
@@ -96,6 +98,19 @@ module _ (s : PoolsState) (h : ArePools s) (i : ℕ) (a : Allocation) (live : al
         exhausted_for s i a live p from lies k there target before,
         exhausted_for new i b (at-set s.allocations i (Some b) (at-below s.allocations i a live)) p from lies now (at-set s.pools p (Some now) (at-below s.pools p k there)) target after,
       )
+
+-- when a target is reserved the pool has no more room for any other request
+module _ (old new : PoolsState) (h : ArePools old) (i : ℕ) (target : PoolPlace) (r : IsReserved old new i target) where
+  pub reserved-pool : pool_at new r.pool ≡ Some r.now
+  reserved-pool = ap (λ (t : PoolsState). pool_at t r.pool) r.state ∙ at-set old.pools r.pool (Some r.now) (at-below old.pools r.pool r.was r.there)
+
+  pub reserved-allocation : allocation_at new i ≡ Some (record r.allocation { target = Some target })
+  reserved-allocation = ap (λ (t : PoolsState). allocation_at t i) r.state ∙ at-set old.allocations i (Some (record r.allocation { target = Some target })) (at-below old.allocations i r.allocation r.live)
+
+  pub exhausted-reserved : IfLive old i (λ a. IsMovable old a.home a.target) → (low : BlockStart) (q : Request) → IsExhausted r.was.pool low q → IsExhausted r.now.pool low q
+  exhausted-reserved may low q all =
+      exhausted-taken r.was r.now low (start_of r.from) (start_of target) q (request_in r.allocation.asked) (h.pools r.pool r.was r.there)
+      (movable-kind old r.allocation.home r.allocation.target r.pool r.from r.was (live-holds old i (λ a. IsMovable old a.home a.target) may r.allocation r.live) r.lies r.there) r.takes all
 
 -- where a pool is put back as it was nothing has changed
 pub pool-back : (s : PoolsState) (p : ℕ) (k now : Kept) → pool_at s p ≡ Some k → now ≡ k → record s { pools = set s.pools p (Some now) } ≡ s
