@@ -12,7 +12,7 @@ use crate::open::{Fate, Planned};
 use std::alloc::{AllocError, Global};
 use vk_memory::Memories;
 use vma_blocks::PoolBlock;
-use vma_pools::PoolsOf;
+use vma_pools::{PoolPlace, PoolsOf};
 
 /// What a pass may move at most: bytes and moves, 0 for any number.
 #[derive(Clone, Copy)]
@@ -101,16 +101,17 @@ fn reserve_each<B: PoolBlock>(
 {
     pools.are_pools();
     let listed = pools.by_place(pool)?;
+    let low = PoolPlace { block: 0, start: 0 };
     let mut bytes: u64 = 0;
     for allocation in &listed {
         let size = pools.place(*allocation).size;
         if limits.is_passed(bytes, planned.len(), size) {
-            if pools.lower_place(*allocation).is_some() {
+            if pools.lower_place(*allocation, low).is_some() {
                 return Ok(());
             }
         } else {
             planned.reserve(1)?;
-            if let Some(to) = pools.reserve_lower(*allocation)? {
+            if let Some(to) = pools.reserve_lower(*allocation, low)? {
                 planned.push_reserved(Planned {
                     allocation: *allocation,
                     to,

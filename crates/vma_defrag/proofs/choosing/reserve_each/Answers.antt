@@ -1,6 +1,7 @@
 use Rattle.std.proofs.Common.{ℕ, ◌+◌, List, [], ◌∷◌, ◌++◌, length, get_or, true, false, refl, sym, ap, subst, ◌∙◌, arith}
 use Rattle.vma_pools.specs.Listing.{AreByPlace}
 use Rattle.vma_pools.specs.State.{PoolsState, Backs}
+use Rattle.vma_pools.proofs.ExhaustedFor.{exhausted_for-start}
 use Rattle.vma_defrag.specs.declared.open.Fate.TheVariants.{Made}
 use Rattle.vma_defrag.specs.declared.open.Planned.{Planned}
 use Rattle.vma_defrag.specs.Plans.{ArePlanned}
@@ -23,20 +24,26 @@ place-size-requires g c =
     let ns = c.deref-allocation-items.result.now in let i = c.loop-allocation.allocation-index in
     live-turn c.args.pools.now c.loop-allocation.pools c.args.pool c.args.limits.bytes c.args.limits.moves c.loop-allocation.bytes c.loop-allocation.planned.items ns i c.loop-allocation.invariant.chosen (get_or ns i 0) c.loop-allocation-test.true refl
 
-pub lower_place-requires : goal.lower_place-requires
-lower_place-requires g c =
+pub lower_place-requires-clause-movable : goal.lower_place-requires-clause-movable
+lower_place-requires-clause-movable g c =
     let ns = c.deref-allocation-items.result.now in let i = c.loop-allocation.allocation-index in
     movable-turn c.args.pools.now c.loop-allocation.pools c.args.pool c.args.limits.bytes c.args.limits.moves c.loop-allocation.bytes c.loop-allocation.planned.items ns i c.loop-allocation.invariant.chosen (get_or ns i 0) c.loop-allocation-test.true refl
 
-pub reserve_lower-requires : goal.reserve_lower-requires
-reserve_lower-requires g c =
+pub reserve_lower-requires-clause-movable : goal.reserve_lower-requires-clause-movable
+reserve_lower-requires-clause-movable g c =
     let ns = c.deref-allocation-items.result.now in let i = c.loop-allocation.allocation-index in
     movable-turn c.args.pools.now c.loop-allocation.pools c.args.pool c.args.limits.bytes c.args.limits.moves c.loop-allocation.bytes c.loop-allocation.planned.items ns i c.loop-allocation.invariant.chosen (get_or ns i 0) c.loop-allocation-test.true refl
+
+pub lower_place-requires-clause-low : goal.lower_place-requires-clause-low
+lower_place-requires-clause-low g c = exhausted_for-start c.loop-allocation.pools (get_or c.deref-allocation-items.result.now c.loop-allocation.allocation-index 0)
+
+pub reserve_lower-requires-clause-low : goal.reserve_lower-requires-clause-low
+reserve_lower-requires-clause-low g c = exhausted_for-start c.loop-allocation.pools (get_or c.deref-allocation-items.result.now c.loop-allocation.allocation-index 0)
 
 pub returns-then-is_some-clause-chosen : goal.returns-then-is_some-clause-chosen
 returns-then-is_some-clause-chosen g c =
     let ns = c.deref-allocation-items.result.now in let i = c.loop-allocation.allocation-index in
-    let some = some-answer _ _ c.lower_place.result (sym c.is_some.ensures ∙ c.if-is_some.true) c.lower_place.ensures in
+    let some = some-answer _ _ c.lower_place.result (sym c.is_some.ensures ∙ c.if-is_some.true) c.lower_place.ensures.lower in
     let over = limit-answer c.args.limits.bytes c.args.limits.moves c.loop-allocation.bytes (length c.loop-allocation.planned.items) c.len.result c.place-size.result.size c.is_passed.result true
     (omega (arith, c.len.ensures, c.loop-allocation.planned.ok)) c.is_passed.ensures.passed c.if-is_passed.true in
     ended-turn c.args.pools.now c.loop-allocation.pools c.args.pool c.args.limits.bytes c.args.limits.moves c.loop-allocation.bytes c.loop-allocation.planned.items ns i c.loop-allocation.invariant.chosen (get_or ns i 0) c.loop-allocation-test.true refl
@@ -86,7 +93,7 @@ loop-allocation-preserved g c =
       | then-is_passed+else-is_some w ↦ record {
         chosen = renamed old now c.if-is_passed.pools p mb mm b c.if-is_passed.bytes ps c.if-is_passed.planned.items ns (i + 1) w.pools-is w.bytes-is (ap (λ v. v.items) w.planned-is)
             (passed-turn old now p mb mm b ps ns i c.loop-allocation.invariant.chosen (get_or ns i 0) c.loop-allocation-test.true refl
-            (none-answer _ _ w.lower_place.result (sym w.is_some.ensures ∙ w.if-is_some.false) w.lower_place.ensures));
+            (none-answer _ _ w.lower_place.result (sym w.is_some.ensures ∙ w.if-is_some.false) w.lower_place.ensures.lower));
         backs = λ m backs. subst (λ (s : PoolsState). Backs s m) (sym w.pools-is) (c.loop-allocation.invariant.backs m backs);
       }
       | else-is_passed+in_ok-reserve+in_ok-to+in-Some w ↦ record {
