@@ -21,6 +21,7 @@ mod GivenBack
 mod Cancelling
 mod Left
 mod Step
+mod Searches
 mod Walk
 mod Turns
 mod Matched

@@ -4,21 +4,22 @@ use Rattle.std.specs.Prelude.{Any, Contains}
 use Rattle.std.proofs.lemmas.Bool.{cases_eq}
 use Rattle.std.proofs.lemmas.List.Elements.{All-contains, All-push, All-weaker, Contains-append_left, Contains-append_right}
 use Rattle.vk_model.specs.declared.resource.PoolKind.TheVariants as algorithm
-use Rattle.vk_model.specs.declared.resource.Spot.{Spot}
 use Rattle.vk_model.specs.Memory.Suballocation.{Request}
 use Rattle.vk_model.specs.Memory.MoveTargets.{BlockStart, Moved, Resident, move_target}
 use Rattle.vk_model.specs.Memory.Pools.{numbered_blocks}
 use Rattle.vk_model.proofs.Lists.Members.{contains-head}
 use Rattle.vma_pools.specs.declared.pool.PoolPlace.{PoolPlace}
+use Rattle.vma_pools.specs.declared.allocations.Asked.{Asked}
 use Rattle.vma_pools.specs.declared.allocations.Allocation.{Allocation}
 use Rattle.vma_pools.specs.declared.allocations.Home.{Home}
 use Rattle.vma_pools.specs.declared.allocations.Home.TheVariants as home
-use Rattle.vma_pools.specs.Pools.{Kept, HasNoTarget, HasTarget, IsMemoryOf, TakesTarget}
-use Rattle.vma_pools.specs.State.{ArePools, PoolsState, HasLower, HasNoLower, IfKept, IfLive, IsHeld, IsMovable, IsReserved, IsSpotOf, allocation_at, pool_at, request_in, start_of}
+use Rattle.vma_pools.specs.Pools.{Kept, HasNoTarget, HasTarget, TakesTarget}
+use Rattle.vma_pools.specs.State.{ArePools, PoolsState, HasLower, HasNoLower, IfKept, IfLive, IsHeld, IsMovable, IsReserved, allocation_at, pool_at, request_in, start_of}
 use Rattle.vma_pools.proofs.NumberLemmas.{at-below, at-set}
 use Rattle.vma_pools.proofs.StateLemmas.{some-is}
-use Rattle.vma_pools.proofs.EndedLemmas.{kept-is}
 use Rattle.vma_pools.proofs.CallLemmas.{live-and, live-holds}
+use Rattle.vma_defrag.specs.declared.cursors.Cursor.{Cursor}
+use Rattle.vma_defrag.specs.Inner.Cursors.{IsPlaceOf}
 use Rattle.vma_defrag.specs.Plans.{ArePlanned, IsMove}
 use Rattle.vma_defrag.proofs.Aligned.{gives_aligned}
 use Rattle.vma_defrag.proofs.Chain.{once-more, others-stay}
@@ -30,12 +31,8 @@ module _ (s : PoolsState) (pool : ℕ) (r : Resident) (left : IsLeft s pool r) w
   abbrev a : Allocation
   a = left.listed.allocation
 
-  pub its-size : (spot : Spot) → IfLive s r.id (λ b. IsSpotOf s b.home b.asked spot) → spot.size ≡ r.request.size
-  its-size spot lies =
-      let here = live-holds s r.id (λ b. IsSpotOf s b.home b.asked spot) lies a left.listed.live in
-      let shared = subst (λ (h : Home). IsSpotOf s h a.asked spot) left.listed.lies here in
-      let k = kept-is s pool (λ k. IsMemoryOf k left.listed.place.block spot.memory × (spot.offset ≡ left.listed.place.start) × (spot.size ≡ a.asked.size)) shared in
-      k.2.2 ∙ ap (λ (q : Request). q.size) left.listed.request
+  pub its-size : (own : Cursor) → IfLive s r.id (IsPlaceOf own) → own.asked.size ≡ r.request.size
+  its-size own place = ap (λ (q : Asked). q.size) (live-holds s r.id (IsPlaceOf own) place a left.listed.live).asked ∙ ap (λ (q : Request). q.size) left.listed.request
 
   pub may-move : IfKept s pool (λ k. k.pool.info.kind ≡ algorithm.Tlsf) → IfLive s r.id (λ b. IsMovable s b.home b.target)
   may-move kind =

@@ -8,11 +8,12 @@ ghost use Rattle.vma_defrag.specs.Plans.{ArePlanned};
 ghost use Rattle.vma_defrag.specs.Inner.Planned.{moves_of};
 ghost use Rattle.vma_defrag.specs.Inner.Choosing.{HasChosen, HasReserved};
 
+use crate::cursors::{Cursor, keep, low_for};
 use crate::open::{Fate, Planned};
 use std::alloc::{AllocError, Global};
 use vk_memory::Memories;
 use vma_blocks::PoolBlock;
-use vma_pools::{PoolPlace, PoolsOf};
+use vma_pools::PoolsOf;
 
 /// What a pass may move at most: bytes and moves, 0 for any number.
 #[derive(Clone, Copy)]
@@ -74,7 +75,7 @@ pub(crate) fn reserve_moves<B: PoolBlock>(
     ensures backs { Backs pools.new memories.new }
 {
     let mut planned = Vec::new(alloc);
-    match reserve_each(pools, &mut planned, pool, limits) {
+    match reserve_each(alloc, pools, &mut planned, pool, limits) {
         Ok(()) => Ok(planned),
         Err(refused) => {
             cancel_all(pools, memories, &mut planned);
@@ -86,6 +87,7 @@ pub(crate) fn reserve_moves<B: PoolBlock>(
 /// Reserves targets for the allocations of a pool, one after another, as the limits allow. The only
 /// error is want of memory, after which those before it are reserved.
 fn reserve_each<B: PoolBlock>(
+    alloc: Global,
     pools: &mut PoolsOf<B>,
     planned: &mut Vec<Planned>,
     pool: u64,
@@ -101,25 +103,32 @@ fn reserve_each<B: PoolBlock>(
 {
     pools.are_pools();
     let listed = pools.by_place(pool)?;
-    let low = PoolPlace { block: 0, start: 0 };
+    let mut cursors = Vec::new(alloc);
     let mut bytes: u64 = 0;
     for allocation in &listed {
-        let size = pools.place(*allocation).size;
+        let own = Cursor::at(pools, *allocation);
+        let size = own.asked.size;
+        let low = low_for(&cursors, own.asked);
         if limits.is_passed(bytes, planned.len(), size) {
             if pools.lower_place(*allocation, low).is_some() {
                 return Ok(());
             }
+            keep(&mut cursors, own);
         } else {
             planned.reserve(1)?;
-            if let Some(to) = pools.reserve_lower(*allocation, low)? {
-                planned.push_reserved(Planned {
-                    allocation: *allocation,
-                    to,
-                    bytes: size,
-                    fate: Fate::Made,
-                });
-                // Without a limit on bytes their sum isn't asked for.
-                bytes = bytes.saturating_add(size);
+            match pools.reserve_lower(*allocation, low)? {
+                Some(to) => {
+                    planned.push_reserved(Planned {
+                        allocation: *allocation,
+                        to,
+                        bytes: size,
+                        fate: Fate::Made,
+                    });
+                    // Without a limit on bytes their sum isn't asked for.
+                    bytes = bytes.saturating_add(size);
+                    keep(&mut cursors, Cursor { low: to, ..own });
+                }
+                None => keep(&mut cursors, own),
             }
         }
     }

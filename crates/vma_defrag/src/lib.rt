@@ -7,6 +7,7 @@
 #![tactic(auto)]
 
 mod choosing;
+mod cursors;
 mod defrag;
 mod ending;
 mod open;
