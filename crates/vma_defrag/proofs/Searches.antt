@@ -19,7 +19,7 @@ use Rattle.vma_defrag.proofs.Left.{IsLeft, pair-is}
 use Rattle.vma_defrag.proofs.Step.{now-there, was-there}
 
 -- what a cursor says of a pool
-abbrev pub IsCursor : Kept → Cursor → Type 0
+abbrev IsCursor : Kept → Cursor → Type 0
 IsCursor k c = IsExhausted k.pool (start_of c.low) (request_in c.asked)
 
 -- what cursors say of a pool by its number
