@@ -1,4 +1,4 @@
-ghost use Rattle.std.specs.Prelude.{◌≡◌, ◌<◌, ◌⊎◌, ◌↔◌, Contains, IfSome, IsTrue, length};
+ghost use Rattle.std.specs.Prelude.{◌≡◌, ◌<◌, ◌⊎◌, ◌↔◌, All, Contains, IfSome, IsTrue, length};
 ghost use Rattle.vk_model.specs.Memory.Pools.{IsHigher};
 ghost use Rattle.vma_pools.specs.State.{IfLive, IsMovable, start_of};
 ghost use Rattle.vma_defrag.specs.declared.cursors.Cursor.{Cursor};
@@ -57,7 +57,8 @@ fn is_higher(place: PoolPlace, other: PoolPlace) -> bool
 /// Where the search for what is asked begins: at the highest place of the cursors that serve it, else
 /// at the start of the pool.
 pub(crate) fn low_for(cursors: &[Cursor], asked: Asked) -> PoolPlace
-    ensures { BeginsAt cursors.now asked result }
+    ensures begins { BeginsAt cursors.now asked result }
+    ensures highest { All (λ c. IsAtLeast c.asked asked → IsHigher (start_of c.low) (start_of result) → ⊥) cursors.now }
 {
     let mut low = PoolPlace { block: 0, start: 0 };
     for cursor in cursors {

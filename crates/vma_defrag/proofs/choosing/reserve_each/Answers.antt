@@ -40,13 +40,13 @@ pub lower_place-requires-clause-low : goal.lower_place-requires-clause-low
 lower_place-requires-clause-low g c =
     let ns = c.deref-allocation-items.result.now in let i = c.loop-allocation.allocation-index in
     begins-turn c.args.pools.now c.loop-allocation.pools c.args.pool c.args.limits.bytes c.args.limits.moves c.loop-allocation.bytes c.loop-allocation.planned.items ns i c.loop-allocation.invariant.chosen (get_or ns i 0) c.loop-allocation-test.true refl
-    c.at-own.result c.at-own.ensures c.loop-allocation.cursors.items c.loop-allocation.invariant.cursors c.low_for-low.result (rw c.deref.ensures.value at c.low_for-low.ensures)
+    c.at-own.result c.at-own.ensures c.loop-allocation.cursors.items c.loop-allocation.invariant.cursors c.low_for-low.result (rw c.deref.ensures.value at c.low_for-low.ensures.begins)
 
 pub reserve_lower-requires-clause-low : goal.reserve_lower-requires-clause-low
 reserve_lower-requires-clause-low g c =
     let ns = c.deref-allocation-items.result.now in let i = c.loop-allocation.allocation-index in
     begins-turn c.args.pools.now c.loop-allocation.pools c.args.pool c.args.limits.bytes c.args.limits.moves c.loop-allocation.bytes c.loop-allocation.planned.items ns i c.loop-allocation.invariant.chosen (get_or ns i 0) c.loop-allocation-test.true refl
-    c.at-own.result c.at-own.ensures c.loop-allocation.cursors.items c.loop-allocation.invariant.cursors c.low_for-low.result (rw c.deref.ensures.value at c.low_for-low.ensures)
+    c.at-own.result c.at-own.ensures c.loop-allocation.cursors.items c.loop-allocation.invariant.cursors c.low_for-low.result (rw c.deref.ensures.value at c.low_for-low.ensures.begins)
 
 pub returns-then-is_some-clause-chosen : goal.returns-then-is_some-clause-chosen
 returns-then-is_some-clause-chosen g c =
