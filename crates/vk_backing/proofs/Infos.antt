@@ -16,7 +16,7 @@ use Rattle.vk_backing.specs.Backed.{Backed, number_in, pool_of, info_by, IsBacke
 use Rattle.vk_backing.proofs.Sharing.{given_pools, pool_here, pool_other}
 use Rattle.vk_backing.proofs.Releasing.{back_pools, back_here, back_other}
 
-same_info : (s t : PoolsState) (o : Option ℕ) → ((p : ℕ) → o ≡ Some p → (k : Kept) × (l : Kept) × (pool_at s p ≡ Some k) × (pool_at t p ≡ Some l) × (l.pool.info ≡ k.pool.info))
+pub same_info : (s t : PoolsState) (o : Option ℕ) → ((p : ℕ) → o ≡ Some p → (k : Kept) × (l : Kept) × (pool_at s p ≡ Some k) × (pool_at t p ≡ Some l) × (l.pool.info ≡ k.pool.info))
     → option_map (λ k. k.pool.info) (option_and_then (pool_at t) o) ≡ option_map (λ k. k.pool.info) (option_and_then (pool_at s) o)
 same_info s t None each = refl
 same_info s t (Some p) each =

@@ -1,78 +1,32 @@
 -- What lies in pools stays where it is.
-use Rattle.std.proofs.Common.{◌≡◌, ℕ, zero, suc, ◌+◌, ◌%◌, ◌<◌, List, [], ◌∷◌, ◌++◌, set, take, drop, length, get_or, Bool, true, false, ◌==◌, Option, Some, None, refl, sym, ap, subst, ◌∙◌, arith, inl, inr, ◌⊎◌}
-use Rattle.std.specs.Prelude.{if◌then◌else◌, max, All, ⊤}
+use Rattle.std.proofs.Common.{◌≡◌, ℕ, ◌+◌, ◌<◌, List, [], ◌∷◌, ◌++◌, set, length, get_or, Bool, true, false, ◌==◌, Option, Some, None, refl, sym, ap, subst, ◌∙◌, arith, inl, inr}
+use Rattle.std.specs.Prelude.{if◌then◌else◌}
 use Rattle.std.proofs.lemmas.Bool.{cases_eq, ne_eqb, eq-eqb}
-use Rattle.std.proofs.lemmas.List.{length-map, get_or-map, get_or_append_left}
-use Rattle.std.proofs.lemmas.List.Elements.{All-head, All-tail}
+use Rattle.std.proofs.lemmas.List.{get_or-map, get_or_append_left}
 use Rattle.vk_memory.specs.MemoryState.{MemoryState}
-use Rattle.vk_model.specs.declared.resource.PoolInfo.{PoolInfo}
-use Rattle.vk_model.specs.declared.resource.PoolKind.{PoolKind}
-use Rattle.vk_model.specs.declared.resource.PoolKind.TheVariants as algorithm
 use Rattle.vk_model.specs.declared.resource.Spot.{Spot}
-use Rattle.vk_model.specs.Memory.Suballocation.{Request, IsRequest}
-use Rattle.vk_model.specs.Memory.Room.{Block, General, Stack, all_taken}
+use Rattle.vk_model.specs.Memory.Suballocation.{Request}
+use Rattle.vk_model.specs.Memory.Room.{Block}
 use Rattle.vk_model.specs.Memory.MoveTargets.{BlockStart}
-use Rattle.vk_model.specs.Memory.LinearBlocks.{IsLinearBlock}
-use Rattle.vk_model.specs.Memory.Pools.{Pool, PoolBlock, IsSoundBlock, IsPool, BlockGives, GivesFrom, Gives, block_with, new_block, empty_block, in_block, with_change, pool_with}
-use Rattle.vk_model.proofs.Memory.Taken.{fitting}
-use Rattle.vk_model.proofs.Memory.LinearBlocks.{linear_takes, linear_stays}
+use Rattle.vk_model.specs.Memory.Pools.{Pool, PoolBlock, block_with, new_block, in_block, with_change, pool_with}
 use Rattle.vma_pools.specs.declared.pool.PoolPlace.{PoolPlace}
 use Rattle.vma_pools.specs.declared.allocations.Asked.{Asked}
 use Rattle.vma_pools.specs.declared.allocations.Allocation.{Allocation}
-use Rattle.vma_pools.specs.Pools.{Kept, Takes, KeepsBlocks, IsMemoryOf, block_numbers}
+use Rattle.vma_pools.specs.Pools.{Kept, Takes, IsMemoryOf}
 use Rattle.vma_pools.specs.State.{PoolsState, pool_at, allocation_at, request_in, start_of, IsGivenBack, released}
 use Rattle.vma_pools.proofs.NumberLemmas.{at-old, at-other}
 use Rattle.vma_pools.proofs.PoolAlike.{are-length, are-at}
 use Rattle.vma_pools.proofs.StateLemmas.{some-is}
 use Rattle.vma_pools.proofs.CountedLemmas.{old-blocks}
+use Rattle.vma_defrag.proofs.KeptBlocks.{memory_left}
 use Rattle.vk_backing.specs.Backed.{Backed, number_in, allocation_of, LiesIn, IsBacked}
 use Rattle.vk_backing.proofs.Spots.{are_spots}
 use Rattle.vk_backing.proofs.Sharing.{given_pools, sharing, pool_here, pool_other, old_allocation, blocks_new}
 use Rattle.vk_backing.proofs.Releasing.{back_here, back_was, back_allocation, backing, shared_was}
 
--- ---- starts are aligned
-
--- a linear block is one
-abbrev IsLinearIf : Block → Type 0
-IsLinearIf (General size taken) = ⊤
-IsLinearIf (Stack b) = IsLinearBlock b
-
-start_aligned : (k : Block) → IsLinearIf k → (r : Request) (upper : Bool) (start : ℕ) → BlockGives k r upper start → start % r.align ≡ 0
-start_aligned (General size taken) linear r upper start gives = (fitting taken r 0 size start gives).aligned
-start_aligned (Stack b) linear r true start gives = (fitting (all_taken b) r 0 b.size start ((linear_takes.upper b r linear).fitting start gives)).aligned
-start_aligned (Stack b) linear r false start gives = (fitting (all_taken b) r 0 b.size start ((linear_takes.lower b r linear).fitting start gives)).aligned
-
-sound_linear : (k : Block) → IsSoundBlock k → IsLinearIf k
-sound_linear (General size taken) sound = tt
-sound_linear (Stack b) sound = sound
-
-new_linear : (info : PoolInfo) → IsLinearIf (new_block info)
-new_linear info = go info.kind
-  where
-    go : (k : PoolKind) → IsLinearIf (empty_block k info)
-    go algorithm.Tlsf = tt
-    go algorithm.Linear = linear_stays.first info.block_size (info.block_limit == 1)
-
-from_aligned : (info : PoolInfo) (next : ℕ) (bs : List PoolBlock) (r : Request) (upper : Bool) (s : BlockStart) → All (λ b. IsSoundBlock b.block) bs → GivesFrom info next bs r upper s → s.start % r.align ≡ 0
-from_aligned info next [] r upper s sound gives = start_aligned (new_block info) (new_linear info) r upper s.start gives.1
-from_aligned info next (b ∷ bs) r upper s sound (inl here) = start_aligned b.block (sound_linear b.block (All-head (λ (c : PoolBlock). IsSoundBlock c.block) b bs sound)) r upper s.start here.1
-from_aligned info next (b ∷ bs) r upper s sound (inr later) = from_aligned info next bs r upper s (All-tail (λ (c : PoolBlock). IsSoundBlock c.block) b bs sound) later.1
-
-pub gives_aligned : (p : Pool) → IsPool p → (r : Request) (upper : Bool) (s : BlockStart) → Gives p r upper s → s.start % r.align ≡ 0
-gives_aligned p h r upper s gives = from_aligned p.info p.next p.blocks r upper s h.sound gives
-
--- on cached memory they begin with an atom
-pub atom_aligned : (start align size : ℕ) → IsRequest size align → start % max 64 align ≡ 0 → start % 64 ≡ 0
-atom_aligned start align size asks e = go asks.aligned
-  where
-    go : (align ≡ 16) ⊎ (align ≡ 64) ⊎ (align ≡ 256) → start % 64 ≡ 0
-    go (inl is) = subst (λ (n : ℕ). start % max 64 n ≡ 0) is e
-    go (inr (inl is)) = subst (λ (n : ℕ). start % max 64 n ≡ 0) is e
-    go (inr (inr is)) = let f : start % 256 ≡ 0 = subst (λ (n : ℕ). start % max 64 n ≡ 0) is e in omega (arith, f)
-
 -- ---- the memory objects of blocks
 
-changed_number : (change : Block → Block) (n : ℕ) (b : PoolBlock) → (with_change change n b).number ≡ b.number
+pub changed_number : (change : Block → Block) (n : ℕ) (b : PoolBlock) → (with_change change n b).number ≡ b.number
 changed_number change n b = go (b.number == n)
   where
     go : (v : Bool) → (if v then record b { block = change b.block } else b).number ≡ b.number
@@ -160,45 +114,6 @@ module _ (b : Backed) (m : MemoryState) (h : IsBacked b m) (p : ℕ) (was now : 
   ]
 
 -- ---- where a place is given back
-
--- where an item of what is left was
-was_at : (xs ys : List ℕ) (i j : ℕ) → length ys ≡ length xs → j < length (take i xs ++ drop (suc i) xs) → (k : ℕ) × (k < length xs) × (get_or xs k 0 ≡ get_or (take i xs ++ drop (suc i) xs) j 0) × (get_or ys k 0 ≡ get_or (take i ys ++ drop (suc i) ys) j 0)
-was_at [] ys zero j e lt = absurd (omega (arith, lt))
-was_at [] ys (suc i) j e lt = absurd (omega (arith, lt))
-was_at (x ∷ xs) [] i j e lt = absurd (omega (arith, e))
-was_at (x ∷ xs) (y ∷ ys) zero j e lt = (suc j, omega (arith, lt), refl, refl)
-was_at (x ∷ xs) (y ∷ ys) (suc i) zero e lt = (0, omega arith, refl, refl)
-was_at (x ∷ xs) (y ∷ ys) (suc i) (suc j) e lt = let r = was_at xs ys i j (omega (arith, e)) (omega (arith, lt)) in (suc r.0, omega (arith, r.1), r.2, r.3)
-
--- the number at an index, whatever stands past the end
-number_at : (p : Pool) (i : ℕ) (d : PoolBlock) → i < length p.blocks → get_or (block_numbers p) i 0 ≡ (get_or p.blocks i d).number
-number_at p i d lt = get_or-map (λ (b : PoolBlock). b.number) p.blocks i d 0 lt
-
--- a block that is left was that memory object
-memory_left : (was now : Kept) → length was.memories ≡ length was.pool.blocks → length now.memories ≡ length now.pool.blocks → (gone : Option ℕ) (number : ℕ) → KeepsBlocks gone number was now → (n x : ℕ) → IsMemoryOf now n x → IsMemoryOf was n x
-memory_left was now matched now-matched None number k n x of =
-    let long = ap (λ (l : List ℕ). length l) k.0 in
-    let there : of.index < length was.pool.blocks = omega (arith, of.there, matched, now-matched, long) in
-    record {
-      index = of.index;
-      there = there;
-      numbered = λ d. sym (number_at was.pool of.index d there) ∙ ap (λ (l : List ℕ). get_or l of.index 0) (sym k.1) ∙ number_at now.pool of.index d of.there ∙ of.numbered d;
-      is = ap (λ (l : List ℕ). get_or l of.index 0) (sym k.0) ∙ of.is;
-    }
-memory_left was now matched now-matched (Some gone) number k n x of =
-    let next : k.index + 1 ≡ suc k.index = omega arith in
-    let ms = k.memories ∙ ap (λ (j : ℕ). take k.index was.memories ++ drop j was.memories) next in
-    let ns = k.numbers ∙ ap (λ (j : ℕ). take k.index (block_numbers was.pool) ++ drop j (block_numbers was.pool)) next in
-    let long = length-map was.pool.blocks (λ (b : PoolBlock). b.number) in
-    let low = subst (λ (l : List ℕ). of.index < length l) ms (omega (arith, of.there, now-matched)) in
-    let w = was_at was.memories (block_numbers was.pool) k.index of.index (omega (arith, long, matched)) low in
-    let there : w.0 < length was.pool.blocks = omega (arith, w.1, matched) in
-    record {
-      index = w.0;
-      there = there;
-      numbered = λ d. sym (number_at was.pool w.0 d there) ∙ w.3 ∙ ap (λ (l : List ℕ). get_or l of.index 0) (sym ns) ∙ number_at now.pool of.index d of.there ∙ of.numbered d;
-      is = w.2 ∙ ap (λ (l : List ℕ). get_or l of.index 0) (sym ms) ∙ of.is;
-    }
 
 module _ (b : Backed) (m : MemoryState) (h : IsBacked b m) (a : ℕ) (x : Allocation) (live : allocation_at b.pools a ≡ Some x) (new : PoolsState) (p : ℕ) (place : PoolPlace) (gone : Option ℕ) (g : IsGivenBack b.pools new a p place gone)
     (id : ℕ) (its : allocation_of b id ≡ Some a) (allocations : List (ℕ × ℕ)) (none : number_in allocations id ≡ None) (others : (i : ℕ) → (i ≡ id → ⊥) → number_in allocations i ≡ allocation_of b i) where

@@ -22,3 +22,32 @@ mod Mapping
 mod Disowning
 mod DedicatedCalls
 pub mod Remapped
+mod Numbers
+mod Named
+pub mod Passing
+pub mod PassingSteps
+mod OpenPass
+mod KeptObjects
+mod CopyKeeps
+mod PoolsStay
+mod StaysBacked
+mod Permuting
+mod Naming
+mod NamedMoves
+mod ChangedPool
+mod Targets
+mod PoolsBy
+mod ChangedMoves
+mod OpenAllots
+mod BeginAllots
+mod UndefragAllots
+mod CopyAllots
+mod Cleared
+mod PassEnded
+mod CloseAllots
+mod Opening
+mod Gone
+mod Closing
+mod Closed
+pub mod Agreeing
+pub mod AgreeingSteps

@@ -4,7 +4,7 @@ use Rattle.std.specs.Prelude.{if◌then◌else◌, slice_index_or, sum_by}
 use Rattle.std.specs.Option.{option_and_then}
 use Rattle.std.specs.List.{filter}
 use Rattle.std.proofs.Math.Nat.{suc-mul}
-use Rattle.std.proofs.lemmas.Bool.{cases_eq, ne_eqb, eq-eqb, eqb-true}
+use Rattle.std.proofs.lemmas.Bool.{cases_eq, ne_eqb, eq-eqb}
 use Rattle.std.proofs.lemmas.List.Sums.{sum_by_push}
 use Rattle.vk_memory.specs.MemoryState.{MemoryState}
 use Rattle.vk_model.specs.declared.resource.PoolInfo.{PoolInfo}
@@ -25,7 +25,8 @@ use Rattle.vma_pools.proofs.StateLemmas.{some-is, given-info, takes-gives}
 use Rattle.vma_pools.proofs.CountedLemmas.{old-blocks}
 use Rattle.vk_backing.specs.Backed.{Backed, number_in, object_of, pool_of, allocation_of, allocation_by, IsBacked}
 use Rattle.vk_backing.specs.Allotted.{allotted, kind_of, bytes_on, one_if, own_memory, resident_of, ArePoolsOf, Fulfils}
-use Rattle.vk_backing.proofs.Keyed.{picked_in, picked_out, picked_map, found_some, sum_one}
+use Rattle.vk_backing.proofs.PoolsBy.{pool_by, pool_found, change, change_it, change_other, keeps_id}
+use Rattle.vk_backing.proofs.Keyed.{picked_in, picked_out, picked_map, sum_one}
 use Rattle.vk_backing.proofs.Grown.{grown_kinds, kind_stays}
 use Rattle.vk_backing.proofs.Heaps.{room_found, found_room}
 use Rattle.vk_backing.proofs.Owning.{heap_bytes}
@@ -36,13 +37,14 @@ use Rattle.vk_memory.proofs.LiveObjects.{live_below}
 
 module _ (b : Backed) (m : MemoryState) (d : Allocated) (is : Fulfils (allotted b m) d) (pool p : ℕ) (named : pool_of b pool ≡ Some p) (was : Kept) (there : pool_at b.pools p ≡ Some was) where
   pub its_pools : ArePoolsOf b pool (Some p) (filter (λ q. q.id == pool) d.pools)
-  its_pools = subst (λ (o : Option ℕ). ArePoolsOf b pool o (filter (λ q. q.id == pool) d.pools)) named (is.pools pool)
+  its_pools = pool_by b m d is pool p named
 
   abbrev pub its : PoolMemory
   its = its_pools.0
 
   pub its_found : pool_by_id pool d ≡ Some its
-  its_found = found_some (λ (q : PoolMemory). q.id) pool d.pools its its_pools.2
+  unfolding its_pools
+  its_found = pool_found b m d is pool p named
 
   pub its_alike : IsAlikePool its.pool was.pool
   its_alike = subst (λ (k : Kept). IsAlikePool its.pool k.pool) (some-is its_pools.1 was (sym its_pools.3 ∙ there)) its_pools.4.pool
@@ -81,9 +83,6 @@ module _ (b : Backed) (m : MemoryState) (h : IsBacked b m) (p : ℕ) (was now : 
   abbrev with_it : PoolMemory
   with_it = with_resident q id asks-of upper s
 
-  abbrev change : PoolMemory → PoolMemory
-  change o = if o.id == with_it.id then with_it else o
-
   abbrev new : Backed
   new = sharing b m h p was now there place asked upper after takes allocations
 
@@ -110,23 +109,10 @@ module _ (b : Backed) (m : MemoryState) (h : IsBacked b m) (p : ℕ) (was now : 
 
   -- ---- the pools of the device
 
-  change_other : (o : PoolMemory) → (o.id ≡ pool → ⊥) → change o ≡ o
-  change_other o other = ap (λ (v : Bool). if v then with_it else o) (ne_eqb o.id with_it.id (λ e. other (e ∙ id_is)))
-
-  change_it : change q ≡ with_it
-  change_it = ap (λ (v : Bool). if v then with_it else q) (eq-eqb q.id with_it.id refl)
-
-  keeps_id : (o : PoolMemory) → (change o).id ≡ o.id
-  keeps_id o = go (o.id == with_it.id) refl
-    where
-      go : (v : Bool) → (o.id == with_it.id) ≡ v → (if v then with_it else o).id ≡ o.id
-      go true e = sym (eqb-true o.id with_it.id e)
-      go false e = refl
-
-  changed_sum : (f : PoolMemory → ℕ) → sum_by f (map change d.pools) + f q ≡ sum_by f d.pools + f with_it
+  changed_sum : (f : PoolMemory → ℕ) → sum_by f (map (change with_it) d.pools) + f q ≡ sum_by f d.pools + f with_it
   changed_sum f =
-      sum_one (λ (o : PoolMemory). o.id) f change pool q d.pools (its_pools b m d is pool p named was there).2 (λ x there other. ap f (change_other x other))
-      ∙ ap (λ (o : PoolMemory). sum_by f d.pools + f o) change_it
+      sum_one (λ (o : PoolMemory). o.id) f (change with_it) pool q d.pools (its_pools b m d is pool p named was there).2 (λ x there other. ap f (change_other with_it x (λ e. other (e ∙ id_is))))
+      ∙ ap (λ (o : PoolMemory). sum_by f d.pools + f o) (change_it with_it q refl)
 
   info_is : with_it.pool.info ≡ q.pool.info
   info_is = given-info q.pool asks-of upper s
@@ -194,29 +180,29 @@ module _ (b : Backed) (m : MemoryState) (h : IsBacked b m) (p : ℕ) (was now : 
 
   -- ---- each pool
 
-  other_pools : (i : ℕ) → (i ≡ pool → ⊥) → (o : Option ℕ) → pool_of b i ≡ o → (qs : List PoolMemory) → ArePoolsOf b i o qs → ArePoolsOf new i o (map change qs)
-  other_pools i other None e qs are = ap (λ (l : List PoolMemory). map change l) are
+  other_pools : (i : ℕ) → (i ≡ pool → ⊥) → (o : Option ℕ) → pool_of b i ≡ o → (qs : List PoolMemory) → ArePoolsOf b i o qs → ArePoolsOf new i o (map (change with_it) qs)
+  other_pools i other None e qs are = ap (λ (l : List PoolMemory). map (change with_it) l) are
   other_pools i other (Some t) e qs are =
       let away : t ≡ p → ⊥ = λ (f : t ≡ p). other (h.one_pool i pool p (e ∙ ap (λ (n : ℕ). Some n) f) named) in (
         are.0,
         are.1,
-        ap (λ (l : List PoolMemory). map change l) are.2 ∙ ap (λ (x : PoolMemory). x ∷ []) (change_other are.0 (λ f. other (sym are.4.id_is ∙ f))),
+        ap (λ (l : List PoolMemory). map (change with_it) l) are.2 ∙ ap (λ (x : PoolMemory). x ∷ []) (change_other with_it are.0 (λ f. other (sym are.4.id_is ∙ f ∙ id_is))),
         pool_other b m h p was now there place asked upper after takes t away ∙ are.3,
         record { id_is = are.4.id_is; pool = are.4.pool; residents = λ j. are.4.residents j ∙ same_residents t away j },
       )
 
-  its_new : ArePoolsOf new pool (Some p) (map change (filter (λ o. o.id == pool) d.pools))
+  its_new : ArePoolsOf new pool (Some p) (map (change with_it) (filter (λ o. o.id == pool) d.pools))
   its_new = (
     with_it,
     now,
-    ap (λ (l : List PoolMemory). map change l) (its_pools b m d is pool p named was there).2 ∙ ap (λ (x : PoolMemory). x ∷ []) change_it,
+    ap (λ (l : List PoolMemory). map (change with_it) l) (its_pools b m d is pool p named was there).2 ∙ ap (λ (x : PoolMemory). x ∷ []) (change_it with_it q refl),
     pool_here b m h p was now there place asked upper after takes,
     record { id_is = id_is; pool = now_alike; residents = now_residents },
   )
 
-  mapped_pools : (i : ℕ) → ArePoolsOf new i (pool_of b i) (map change (filter (λ o. o.id == i) d.pools))
+  mapped_pools : (i : ℕ) → ArePoolsOf new i (pool_of b i) (map (change with_it) (filter (λ o. o.id == i) d.pools))
   mapped_pools i = elim (cases_eq i pool) [
-    | inl e ↦ subst (λ (j : ℕ). ArePoolsOf new j (pool_of b j) (map change (filter (λ o. o.id == j) d.pools))) (sym e) (subst (λ (o : Option ℕ). ArePoolsOf new pool o (map change (filter (λ o. o.id == pool) d.pools))) (sym named) its_new)
+    | inl e ↦ subst (λ (j : ℕ). ArePoolsOf new j (pool_of b j) (map (change with_it) (filter (λ o. o.id == j) d.pools))) (sym e) (subst (λ (o : Option ℕ). ArePoolsOf new pool o (map (change with_it) (filter (λ o. o.id == pool) d.pools))) (sym named) its_new)
     | inr other ↦ other_pools i other (pool_of b i) refl (filter (λ o. o.id == i) d.pools) (is.pools i)
   ]
 
@@ -226,7 +212,7 @@ module _ (b : Backed) (m : MemoryState) (h : IsBacked b m) (p : ℕ) (was now : 
     used = λ first. go-used first takes;
     count = go-count takes;
     objects = λ i. is.objects i ∙ same_kind i;
-    pools = λ i. subst (λ (qs : List PoolMemory). ArePoolsOf new i (pool_of b i) qs) (sym (picked_map (λ (o : PoolMemory). o.id) change keeps_id i d.pools)) (mapped_pools i);
+    pools = λ i. subst (λ (qs : List PoolMemory). ArePoolsOf new i (pool_of b i) qs) (sym (picked_map (λ (o : PoolMemory). o.id) (change with_it) (keeps_id with_it) i d.pools)) (mapped_pools i);
   }
     where
       go-sizes : Takes was now m after (request_in asked) upper s → after.sizes ≡ d.sizes

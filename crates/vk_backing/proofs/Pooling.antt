@@ -28,6 +28,7 @@ use Rattle.vma_pools.proofs.StateLemmas.{some-is}
 use Rattle.vk_backing.specs.Backed.{Backed, number_in, pool_of, allocation_of, allocation_by, IsBacked, IsWhole}
 use Rattle.vk_backing.specs.Steps.{IsUnused}
 use Rattle.vk_backing.specs.Allotted.{allotted, resident_at, resident_of, ArePoolsOf, Fulfils}
+use Rattle.vk_backing.proofs.Spots.{home_pool}
 use Rattle.vk_backing.proofs.Keyed.{push_here, push_other, left_none, left_other}
 
 -- a pool in which nothing lies has no residents
@@ -100,7 +101,19 @@ module _ (b : Backed) (m : MemoryState) (h : IsBacked b m) (info : PoolInfo) whe
         ]
         | inr new ↦ one i j (x ∙ ap (λ (n : ℕ). Some n) new) (y ∙ ap (λ (n : ℕ). Some n) new)
       ];
-      shared = λ i a has. let s = h.shared i a has in record { allocation = s.allocation; live = s.live; free = s.free; pool = s.pool; place = s.place; lies = s.lies; id = s.id; named = still s.id s.pool s.named };
+      shared = λ i a has. let s = h.shared i a has in record {
+        allocation = s.allocation;
+        live = s.live;
+        aligned = λ p place k lies at cached. elim (pool_was numbers p k at) [
+          | inl old ↦ s.aligned p place k lies old cached
+          | inr new ↦ (let low = old_below s.id s.pool s.named in let same = home_pool s.pool p s.place place (sym s.lies ∙ lies) in absurd (omega (arith, low, same, new.0)))
+        ];
+        pool = s.pool;
+        place = s.place;
+        lies = s.lies;
+        id = s.id;
+        named = still s.id s.pool s.named;
+      };
       one = h.one;
     }
 
@@ -214,7 +227,7 @@ module _ (b : Backed) (m : MemoryState) (h : IsBacked b m) (id p : ℕ) (its : p
     shared = λ i a has.
         let s = h.shared i a has in
         let other : s.id ≡ id → ⊥ = λ (is : s.id ≡ id). nothing a s.allocation s.place s.live (s.lies ∙ ap (λ (q : ℕ). home.Shared q s.place) (some-is s.pool p (sym s.named ∙ ap (λ (j : ℕ). pool_of b j) is ∙ its))) in
-        record { allocation = s.allocation; live = s.live; free = s.free; pool = s.pool; place = s.place; lies = s.lies; id = s.id; named = others s.id other ∙ s.named };
+        record { allocation = s.allocation; live = s.live; aligned = λ q place l lies at cached. s.aligned q place l lies (pool_left q l at).0 cached; pool = s.pool; place = s.place; lies = s.lies; id = s.id; named = others s.id other ∙ s.named };
     one = h.one;
   }
 
@@ -267,7 +280,7 @@ unused_held b m h whole id p its unused i r place asked held =
       | inl shares ↦ (let s = h.shared w.0 i shares in
           let same : s.allocation ≡ held.allocation = some-is s.allocation held.allocation (sym s.live ∙ held.live) in
           let lies = ap (λ (x : Allocation). x.home) (sym same) ∙ s.lies in
-          go r w.0 shares (ap (λ (x : Allocation). x.target) (sym same) ∙ s.free) s.pool s.place lies held.there)
+          go r w.0 shares s.pool s.place lies held.there)
       | inr alone ↦ (let d = h.dedicated w.0 i alone in
           let same : d.allocation ≡ held.allocation = some-is d.allocation held.allocation (sym d.live ∙ held.live) in
           let e = sym (own-places held.allocation d.number (ap (λ (x : Allocation). x.home) (sym same) ∙ d.lies) r) ∙ held.there in
@@ -277,12 +290,15 @@ unused_held b m h whole id p its unused i r place asked held =
     none_there : ◌≡◌ {A = Option (ℕ × PoolPlace)} None (Some (p, place)) → ⊥
     none_there e = cc
 
-    go : (r : Bool) (j : ℕ) → allocation_of b j ≡ Some i → held.allocation.target ≡ None → (q : ℕ) (pl : PoolPlace) → held.allocation.home ≡ home.Shared q pl → held_place r held.allocation ≡ Some (p, place) → ⊥
-    go false j has free q pl lies there = unused p j held.allocation place its (ap (λ (o : Option ℕ). option_and_then (allocation_at b.pools) o) has ∙ held.live) there
-    go true j has free q pl lies there =
-        let e = ap (λ (l : Home). reserved_place l held.allocation.target) (sym lies) in
-        let f = ap (λ (t : Option PoolPlace). reserved_place (home.Shared q pl) t) (sym free) in
-        none_there (f ∙ e ∙ there)
+    reserved : (q : ℕ) (pl : PoolPlace) (t : Option PoolPlace) → reserved_place (home.Shared q pl) t ≡ Some (p, place) → q ≡ p
+    reserved q pl None e = absurd cc
+    reserved q pl (Some u) e = ap (λ (x : ℕ × PoolPlace). x.0) (some-is (q, u) (p, place) e)
+
+    go : (r : Bool) (j : ℕ) → allocation_of b j ≡ Some i → (q : ℕ) (pl : PoolPlace) → held.allocation.home ≡ home.Shared q pl → held_place r held.allocation ≡ Some (p, place) → ⊥
+    go false j has q pl lies there = unused p j held.allocation place its (ap (λ (o : Option ℕ). option_and_then (allocation_at b.pools) o) has ∙ held.live) there
+    go true j has q pl lies there =
+        let same = reserved q pl held.allocation.target (ap (λ (l : Home). reserved_place l held.allocation.target) (sym lies) ∙ there) in
+        unused p j held.allocation pl its (ap (λ (o : Option ℕ). option_and_then (allocation_at b.pools) o) has ∙ held.live) (ap shared_place lies ∙ ap (λ (x : ℕ). Some (x, pl)) same)
 
 -- and it has no blocks
 some_range : (p : Pool) (x : PoolBlock) (xs : List PoolBlock) → p.blocks ≡ x ∷ xs → has_some_taken x ≡ true → (t : Taken) × HasRange p x.number t

@@ -4,6 +4,7 @@ use Rattle.std.specs.Prelude.{slice_index_or}
 use Rattle.std.proofs.lemmas.Bool.{cases_eq}
 use Rattle.std.proofs.lemmas.List.{length-map}
 use Rattle.vk_memory.specs.MemoryState.{MemoryState, IsLive, with_object}
+use Rattle.vk_model.specs.declared.resource.PoolInfo.{PoolInfo}
 use Rattle.vk_model.specs.Memory.Pools.{PoolBlock}
 use Rattle.vma_pools.specs.declared.pool.PoolPlace.{PoolPlace}
 use Rattle.vma_pools.specs.declared.allocations.Allocation.{Allocation}
@@ -209,7 +210,19 @@ module _ (b : Backed) (m : MemoryState) (h : IsBacked b m) (a : ℕ) (x : Alloca
       one_pool = h.one_pool;
       shared = λ i j has.
           let w = shared_was i j has in let s = h.shared i j w.0 in
-          record { allocation = s.allocation; live = back_allocation j w.1 ∙ s.live; free = s.free; pool = s.pool; place = s.place; lies = s.lies; id = s.id; named = s.named };
+          record {
+            allocation = s.allocation;
+            live = back_allocation j w.1 ∙ s.live;
+            aligned = λ q pl k lies at cached. elim (back_was q k at) [
+              | inl here ↦ s.aligned q pl g.was lies (ap (λ (n : ℕ). pool_at b.pools n) here.0 ∙ g.there) (sym (ap (λ (i : PoolInfo). i.memory_type) g.pool_is.info) ∙ ap (λ (k : Kept). k.pool.info.memory_type) here.1 ∙ cached)
+              | inr old ↦ s.aligned q pl k lies old cached
+            ];
+            pool = s.pool;
+            place = s.place;
+            lies = s.lies;
+            id = s.id;
+            named = s.named;
+          };
       one = λ i j l y z. h.one i j l (shared_was i l y).0 (shared_was j l z).0;
     }
 

@@ -1,5 +1,5 @@
 -- What a call that puts a resource in a pool leaves.
-use Rattle.std.proofs.Common.{◌≡◌, ℕ, ◌%◌, List, Bool, ◌==◌, Some, None, refl, sym, ap, subst, ◌∙◌, inl}
+use Rattle.std.proofs.Common.{◌≡◌, ℕ, ◌%◌, ◌≤◌, List, Bool, ◌==◌, Some, None, refl, sym, ap, subst, ◌∙◌, arith, inl}
 use Rattle.std.specs.Prelude.{if◌then◌else◌, max}
 use Rattle.vk_model.specs.declared.resource.PoolInfo.{PoolInfo}
 use Rattle.vk_memory.specs.MemoryState.{MemoryState, type_of}
@@ -15,13 +15,14 @@ use Rattle.vma_pools.specs.Pools.{Kept, IsMemoryOf, heaps}
 use Rattle.vma_pools.specs.State.{PoolsState, pool_at, allocation_at, IfKept, IfLive, ArePools, Backs, IsShared, IsSpotOf, request_in, start_of}
 use Rattle.vma_pools.proofs.EndedLemmas.{kept-is, live-is}
 use Rattle.vma_pools.proofs.StateLemmas.{some-is, given-info, takes-gives}
+use Rattle.vma_defrag.proofs.Aligned.{gives_aligned}
 use Rattle.vk_backing.specs.Backed.{Backed, number_in, object_of, pool_of, allocation_of, info_by, LiesIn, IsBacked, IsWhole}
 use Rattle.vk_backing.specs.Allotted.{allotted, Fulfils}
 use Rattle.vk_backing.specs.Steps.{Asks}
 use Rattle.vk_backing.proofs.Sharing.{share_backed, named_was, share_whole, pool_here, new_allocated, given, given_pools}
 use Rattle.vk_backing.proofs.Spots.{spot_object}
 use Rattle.vk_backing.proofs.Infos.{share_infos}
-use Rattle.vk_backing.proofs.Keeping.{share_keeps, gives_aligned}
+use Rattle.vk_backing.proofs.Keeping.{share_keeps}
 use Rattle.vk_backing.proofs.Places.{its, finds_none, none_found, gets, share_allotted}
 
 -- what a resource asks of blocks
@@ -36,6 +37,12 @@ asks_is r asked t align e is =
 pub kept-holds : (s : PoolsState) (p : ℕ) (P : Kept → Type 0) → IfKept s p P → (k : Kept) → pool_at s p ≡ Some k → P k
 kept-holds s p P h k at = let l = kept-is s p P h in subst P (some-is l.0 k (sym l.1 ∙ at)) l.2
 
+-- on cached memory it is an atom's
+pub atoms_asked : (s : PoolsState) (p align result : ℕ) → IfKept s p (λ k. result ≡ (if k.pool.info.memory_type == 2 then max 64 align else align)) → (k : Kept) → pool_at s p ≡ Some k → k.pool.info.memory_type ≡ 2 → 64 ≤ result
+atoms_asked s p align result h k at cached =
+    let e = kept-holds s p (λ k. result ≡ (if k.pool.info.memory_type == 2 then max 64 align else align)) h k at in
+    let f : result ≡ max 64 align = e ∙ ap (λ (t : ℕ). if t == 2 then max 64 align else align) cached in omega (arith, f)
+
 module _ (b : Backed) (m : MemoryState) (h : IsBacked b m) (pool p : ℕ) (named : pool_of b pool ≡ Some p) (asked : Asked) (upper : Bool) where
   -- no room was found
   pub none_shared : (r : Resource) → ((k : Kept) → pool_at b.pools p ≡ Some k → request_of r k.pool.info.memory_type ≡ request_in asked) → IfKept b.pools p (λ k. NoRoomInPool (heaps m) (state_of k.pool) (request_in asked) upper)
@@ -45,20 +52,20 @@ module _ (b : Backed) (m : MemoryState) (h : IsBacked b m) (pool p : ℕ) (named
       finds_none b m d is pool p named k.0 k.1 r asked (asks k.0 k.1) upper k.2
 
   module _ (new : PoolsState) (after : MemoryState) (a : ℕ) (sh : IsShared b.pools new m after p asked upper a) (id : ℕ) (apart : object_of b id ≡ None) (always : ArePools new) (backs : Backs new after) where
-    pub unnamed_backed : IsBacked (record b { pools = new }) after
-    unnamed_backed =
+    pub unnamed_backed : (sh.was.pool.info.memory_type ≡ 2 → 64 ≤ asked.align) → IsBacked (record b { pools = new }) after
+    unnamed_backed cached =
         subst (λ (s : PoolsState). IsBacked (record b { pools = s }) after) (sym sh.state)
-        (share_backed b m h p sh.was sh.now sh.there sh.place asked upper after sh.takes pool named id apart (subst ArePools sh.state always) (subst (λ (s : PoolsState). Backs s after) sh.state backs) b.allocations (λ i a has. inl has))
+        (share_backed b m h p sh.was sh.now sh.there sh.place asked upper after sh.takes pool named id apart (subst ArePools sh.state always) (subst (λ (s : PoolsState). Backs s after) sh.state backs) b.allocations (λ i a has. inl has) cached)
 
     module _ (absent : allocation_of b id ≡ None) (allocations : List (ℕ × ℕ)) (here : number_in allocations id ≡ Some a) (others : (i : ℕ) → (i ≡ id → ⊥) → number_in allocations i ≡ allocation_of b i) where
       abbrev shared : Backed
       shared = record b { pools = new; allocations = allocations }
 
-      pub named_backed : IsBacked shared after
-      named_backed =
+      pub named_backed : (sh.was.pool.info.memory_type ≡ 2 → 64 ≤ asked.align) → IsBacked shared after
+      named_backed cached =
           subst (λ (s : PoolsState). IsBacked (record b { pools = s; allocations = allocations }) after) (sym sh.state)
           (share_backed b m h p sh.was sh.now sh.there sh.place asked upper after sh.takes pool named id apart (subst ArePools sh.state always) (subst (λ (s : PoolsState). Backs s after) sh.state backs) allocations
-          (named_was b m h p sh.was sh.now sh.there sh.place asked upper after sh.takes id allocations (here ∙ ap (λ (n : ℕ). Some n) sh.number) others))
+          (named_was b m h p sh.was sh.now sh.there sh.place asked upper after sh.takes id allocations (here ∙ ap (λ (n : ℕ). Some n) sh.number) others) cached)
 
       pub named_whole : IsWhole b → IsWhole shared
       named_whole whole =
@@ -93,10 +100,10 @@ module _ (b : Backed) (m : MemoryState) (h : IsBacked b m) (pool p : ℕ) (named
           subst (λ (t : PoolsState). info_by (record b { pools = t; allocations = allocations }) i ≡ info_by b i) (sym sh.state)
           (share_infos b m h p sh.was sh.now sh.there sh.place asked upper after sh.takes i)
 
-      pub named_kind : (spot : Spot) → LiesIn shared id p spot → type_of after spot.memory ≡ sh.was.pool.info.memory_type
-      named_kind spot l =
+      pub named_kind : (sh.was.pool.info.memory_type ≡ 2 → 64 ≤ asked.align) → (spot : Spot) → LiesIn shared id p spot → type_of after spot.memory ≡ sh.was.pool.info.memory_type
+      named_kind cached spot l =
           let k-is = some-is l.kept sh.now (sym l.there ∙ its_pool) in
-          (spot_object shared after named_backed id p spot l).kind ∙ ap (λ (k : Kept). k.pool.info.memory_type) k-is
+          (spot_object shared after (named_backed cached) id p spot l).kind ∙ ap (λ (k : Kept). k.pool.info.memory_type) k-is
           ∙ ap (λ (i : PoolInfo). i.memory_type) ((takes-gives sh.was sh.now m after (request_in asked) upper (start_of sh.place) sh.takes).1.info ∙ given-info sh.was.pool (request_in asked) upper (start_of sh.place))
 
       pub named_aligned : (spot : Spot) → IfLive new a (λ x. IsSpotOf new x.home x.asked spot) → spot.offset % asked.align ≡ 0

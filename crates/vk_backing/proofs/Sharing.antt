@@ -1,10 +1,11 @@
 -- A resource gets a place in a pool.
-use Rattle.std.proofs.Common.{◌≡◌, ℕ, ◌+◌, ◌<◌, List, [], ◌∷◌, ◌++◌, set, length, get_or, Bool, Some, None, refl, sym, ap, subst, ◌∙◌, arith, inl, inr, ◌⊎◌}
+use Rattle.std.proofs.Common.{◌≡◌, ℕ, ◌+◌, ◌<◌, ◌≤◌, List, [], ◌∷◌, ◌++◌, set, length, get_or, Bool, Some, None, refl, sym, ap, subst, ◌∙◌, arith, inl, inr, ◌⊎◌}
 use Rattle.std.specs.Prelude.{if◌then◌else◌}
 use Rattle.std.proofs.lemmas.Bool.{cases_eq, cases_lt, eq-eqb}
 use Rattle.std.proofs.lemmas.List.{length-append, get_or_append_left}
 use Rattle.std.proofs.Math.Seq.{get_or-append_seam}
 use Rattle.vk_memory.specs.MemoryState.{MemoryState, IsLive}
+use Rattle.vk_model.specs.declared.resource.PoolInfo.{PoolInfo}
 use Rattle.vk_model.specs.Memory.Suballocation.{Request}
 use Rattle.vk_model.specs.Memory.MoveTargets.{BlockStart}
 use Rattle.vk_model.specs.Memory.Pools.{Pool, block_with, new_block, in_block, pool_with}
@@ -16,10 +17,11 @@ use Rattle.vma_pools.specs.Pools.{Kept, Takes}
 use Rattle.vma_pools.specs.State.{PoolsState, pool_at, allocation_at, start_of, request_in, new_allocation, Owner, Alone, BlockOf, Has, ArePools, Backs}
 use Rattle.vma_pools.proofs.NumberLemmas.{at-more, at-old, at-new, at-below, at-set, at-other}
 use Rattle.vma_pools.proofs.PoolAlike.{are-length}
-use Rattle.vma_pools.proofs.StateLemmas.{some-is}
+use Rattle.vma_pools.proofs.StateLemmas.{some-is, given-info, takes-gives}
 use Rattle.vma_pools.proofs.CountedLemmas.{old-blocks}
 use Rattle.vk_backing.specs.Backed.{Backed, AreSized, number_in, object_of, dedicated_of, pool_of, allocation_of, IsBacked, IsShared, IsOwner, IsWhole}
 use Rattle.vk_backing.proofs.Grown.{grown_live, grown_sized}
+use Rattle.vk_backing.proofs.Spots.{home_pool}
 use Rattle.vk_backing.proofs.Turned.{stays, dedicated_stays}
 use Rattle.vk_memory.proofs.LiveObjects.{live_below}
 
@@ -126,12 +128,41 @@ module _ (b : Backed) (m : MemoryState) (h : IsBacked b m) (p : ℕ) (was now : 
 
   -- whatever numbers resources have, that are those that they had, and the new one
   module _ (pool : ℕ) (named : pool_of b pool ≡ Some p) (id : ℕ) (apart : object_of b id ≡ None) (always : ArePools given_pools) (backs : Backs given_pools after) (allocations : List (ℕ × ℕ))
-      (owned_was : (i a : ℕ) → number_in allocations i ≡ Some a → (allocation_of b i ≡ Some a) ⊎ ((i ≡ id) × (a ≡ next))) where
+      (owned_was : (i a : ℕ) → number_in allocations i ≡ Some a → (allocation_of b i ≡ Some a) ⊎ ((i ≡ id) × (a ≡ next))) (cached : was.pool.info.memory_type ≡ 2 → 64 ≤ asked.align) where
+    was_type : (k : Kept) → now ≡ k → was.pool.info.memory_type ≡ k.pool.info.memory_type
+    was_type k is =
+        sym (ap (λ (i : PoolInfo). i.memory_type) ((takes-gives was now m after (request_in asked) upper (start_of place) takes).1.info ∙ given-info was.pool (request_in asked) upper (start_of place)))
+        ∙ ap (λ (k : Kept). k.pool.info.memory_type) is
+
     still_shared : (a : ℕ) → IsShared b a → IsShared (sharing allocations) a
-    still_shared a s = record { allocation = s.allocation; live = old_allocation a s.allocation s.live; free = s.free; pool = s.pool; place = s.place; lies = s.lies; id = s.id; named = s.named }
+    still_shared a s = record {
+      allocation = s.allocation;
+      live = old_allocation a s.allocation s.live;
+      aligned = λ q pl k lies at atoms. elim (pool_was q k at) [
+        | inl here ↦ s.aligned q pl was lies (ap (λ (n : ℕ). pool_at b.pools n) here.0 ∙ there) (was_type k here.1 ∙ atoms)
+        | inr old ↦ s.aligned q pl k lies old atoms
+      ];
+      pool = s.pool;
+      place = s.place;
+      lies = s.lies;
+      id = s.id;
+      named = s.named;
+    }
 
     now_shared : IsShared (sharing allocations) next
-    now_shared = record { allocation = given; live = new_allocated; free = refl; pool = p; place = place; lies = refl; id = pool; named = named }
+    now_shared = record {
+      allocation = given;
+      live = new_allocated;
+      aligned = λ q pl k lies at atoms. elim (pool_was q k at) [
+        | inl here ↦ cached (was_type k here.1 ∙ atoms)
+        | inr old ↦ (let same = some-is was k (sym there ∙ ap (λ (n : ℕ). pool_at b.pools n) (home_pool p q place pl lies) ∙ old) in cached (ap (λ (k : Kept). k.pool.info.memory_type) same ∙ atoms))
+      ];
+      pool = p;
+      place = place;
+      lies = refl;
+      id = pool;
+      named = named;
+    }
 
     pub share_backed : IsBacked (sharing allocations) after
     share_backed = record {

@@ -1,12 +1,10 @@
 -- Where resources lie in pools.
-use Rattle.std.proofs.Common.{◌≡◌, ℕ, ◌+◌, ◌<◌, ◌≤◌, [], length, get_or, false, Some, refl, sym, ap, subst, ◌∙◌, arith, inl, inr, ◌⊎◌}
-use Rattle.std.specs.Prelude.{AllPairs}
-use Rattle.std.proofs.lemmas.Bool.{cases_lt, or_parts}
+use Rattle.std.proofs.Common.{◌≡◌, ℕ, ◌+◌, ◌<◌, ◌≤◌, length, get_or, false, Some, refl, sym, ap, subst, ◌∙◌, arith, inl, inr, ◌⊎◌}
+use Rattle.std.proofs.lemmas.Bool.{or_parts}
 use Rattle.std.proofs.lemmas.List.{get_or_default}
 use Rattle.vk_memory.specs.MemoryState.{MemoryState, IsLive, region_of}
 use Rattle.vk_model.specs.declared.resource.Spot.{Spot}
 use Rattle.vk_model.specs.Memory.Suballocation.{ranges_meet}
-use Rattle.vk_model.specs.Memory.Room.{General}
 use Rattle.vk_model.specs.Memory.Pools.{PoolBlock}
 use Rattle.vma_pools.specs.declared.pool.PoolPlace.{PoolPlace}
 use Rattle.vma_pools.specs.declared.allocations.Allocation.{Allocation}
@@ -17,24 +15,13 @@ use Rattle.vma_pools.specs.State.{pool_at, allocation_at, range_at, shared_place
 use Rattle.vma_pools.proofs.CallLemmas.{its-pool, places-apart, sized-live}
 use Rattle.vma_pools.proofs.MovingLemmas.{range-inside}
 use Rattle.vma_pools.proofs.StateLemmas.{some-is}
+use Rattle.vma_defrag.proofs.Spots.{block_index, block_pool}
+use Rattle.vma_defrag.proofs.KeptBlocks.{no_block, one_memory}
 use Rattle.vk_backing.specs.Backed.{Backed, allocation_of, LiesIn, IsBacked}
 use Rattle.vk_backing.specs.Spots.{AreSpots}
 use Rattle.vk_model.proofs.Memory.Ranges.{beside}
 
--- ---- numbers
-
-no_block : PoolBlock
-no_block = record { number = 0; block = General 0 [] }
-
--- a block of a number is one memory object
-pub one_memory : (k : Kept) → AllPairs (λ b c. b.number < c.number) k.pool.blocks → (n x y : ℕ) → IsMemoryOf k n x → IsMemoryOf k n y → x ≡ y
-one_memory k rising n x y a b = elim (cases_lt a.index b.index) [
-  | inl lt ↦ absurd (omega (arith, rising a.index b.index no_block lt b.there, a.numbered no_block, b.numbered no_block))
-  | inr ge ↦ elim (cases_lt b.index a.index) [
-    | inl lt ↦ absurd (omega (arith, rising b.index a.index no_block lt a.there, a.numbered no_block, b.numbered no_block))
-    | inr le ↦ (let same : a.index ≡ b.index = omega (arith, ge, le) in sym a.is ∙ ap (λ (i : ℕ). get_or k.memories i 0) same ∙ b.is)
-  ]
-]
+-- ---- spots
 
 same_spot : (s t : Spot) → s.memory ≡ t.memory → s.offset ≡ t.offset → s.size ≡ t.size → s ≡ t
 same_spot s t a b c =
@@ -43,14 +30,8 @@ same_spot s t a b c =
 pub home_pool : (p q : ℕ) (x y : PoolPlace) → home.Shared p x ≡ home.Shared q y → p ≡ q
 home_pool p q x y e = cc
 
-home_place : (p q : ℕ) (x y : PoolPlace) → home.Shared p x ≡ home.Shared q y → x ≡ y
+pub home_place : (p q : ℕ) (x y : PoolPlace) → home.Shared p x ≡ home.Shared q y → x ≡ y
 home_place p q x y e = cc
-
-block_pool : (p j q l : ℕ) → BlockOf p j ≡ BlockOf q l → p ≡ q
-block_pool p j q l e = cc
-
-block_index : (p j q l : ℕ) → BlockOf p j ≡ BlockOf q l → j ≡ l
-block_index p j q l e = cc
 
 module _ (b : Backed) (m : MemoryState) (h : IsBacked b m) where
   -- ---- one resource

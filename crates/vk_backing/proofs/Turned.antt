@@ -1,5 +1,5 @@
 -- Where allocations are of what they were, whatever ids have of their own.
-use Rattle.std.proofs.Common.{◌≡◌, ℕ, List, Option, Some, None, refl, sym, ap, ◌∙◌}
+use Rattle.std.proofs.Common.{◌≡◌, ℕ, ◌≤◌, List, Option, Some, None, refl, sym, ap, subst, ◌∙◌}
 use Rattle.std.specs.Prelude.{slice_index_or}
 use Rattle.std.specs.Option.{option_and_then}
 use Rattle.vk_memory.specs.MemoryState.{MemoryState}
@@ -44,7 +44,7 @@ module _ (b : Backed) (m : MemoryState) (h : IsBacked b m) (owned : List (ℕ ×
   pub turned_shared : (j a : ℕ) → allocation_of b j ≡ Some a → IsShared turned a
   turned_shared j a has =
       let x = h.shared j a has in let s = stay j a has x.allocation x.live in
-      record { allocation = s.0; live = s.1; free = s.4 ∙ x.free; pool = x.pool; place = x.place; lies = s.2 ∙ x.lies; id = x.id; named = x.named }
+      record { allocation = s.0; live = s.1; aligned = λ p place k lies at cached. subst (λ (r : Asked). 64 ≤ r.align) (sym s.3) (x.aligned p place k (sym s.2 ∙ lies) at cached); pool = x.pool; place = x.place; lies = s.2 ∙ x.lies; id = x.id; named = x.named }
 
   pub turned_keeps : (i q : ℕ) (s : Spot) → LiesIn b i q s → LiesIn turned i q s
   turned_keeps i q s l =

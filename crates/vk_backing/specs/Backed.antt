@@ -1,5 +1,5 @@
 -- What backs ids with memory: memory objects of their own, pools, and allocations in pools.
-use Rattle.std.specs.Prelude.{◌≡◌, ℕ, ◌⊎◌, List, length, Option, Some, None}
+use Rattle.std.specs.Prelude.{◌≡◌, ℕ, ◌≤◌, ◌⊎◌, List, length, Option, Some, None}
 use Rattle.std.specs.Option.{option_and_then, option_map, option_or}
 use Rattle.std.specs.Ordering.{nat_cmp}
 use Rattle.std.specs.Map.{lookup}
@@ -88,11 +88,11 @@ pub record LiesIn (b : Backed) (id pool : ℕ) (spot : Spot) : Type 0 where
 abbrev pub AreSized : MemoryState → Type 0
 AreSized m = (n : ℕ) (o : Object) → object_at m n ≡ Some o → length o.region ≡ o.size
 
--- An allocation lies in a pool that an id has, and no place is reserved for it.
+-- An allocation lies in a pool that an id has; on type 2 its places begin with an atom (VMA, "Custom memory pools"; the alignment: profile).
 pub record IsShared (b : Backed) (number : ℕ) : Type 0 where
   pub allocation : Allocation
   pub live : allocation_at b.pools number ≡ Some allocation
-  pub free : allocation.target ≡ None
+  pub aligned : (p : ℕ) (place : PoolPlace) (k : Kept) → allocation.home ≡ home.Shared p place → pool_at b.pools p ≡ Some k → k.pool.info.memory_type ≡ 2 → 64 ≤ allocation.asked.align
   pub pool : ℕ
   pub place : PoolPlace
   pub lies : allocation.home ≡ home.Shared pool place
@@ -132,3 +132,7 @@ pub record IsBacked (b : Backed) (m : MemoryState) : Type 0 where
 -- Each allocation is that of a resource.
 abbrev pub IsWhole : Backed → Type 0
 IsWhole b = (a : ℕ) (x : Allocation) → allocation_at b.pools a ≡ Some x → (id : ℕ) × ((allocation_of b id ≡ Some a) ⊎ (dedicated_of b id ≡ Some a))
+
+-- No place is reserved for a resource in its pool: it isn't moving (VMA, "Defragmentation").
+abbrev pub IsStill : Backed → ℕ → Type 0
+IsStill b id = (a : ℕ) (x : Allocation) → allocation_of b id ≡ Some a → allocation_at b.pools a ≡ Some x → x.target ≡ None

@@ -1,4 +1,5 @@
-ghost use Rattle.std.specs.Prelude.{◌≡◌, ◌↔◌, ℕ, ◌-◌, ◌<◌, ◌≤◌, ◌==◌, [], IsTrue, Option, Some, None, IfOk, OnOk, IsSome, IsSomeAnd, max, if◌then◌else◌};
+ghost use Rattle.std.specs.Prelude.{◌≡◌, ◌↔◌, ℕ, ◌-◌, ◌<◌, ◌≤◌, ◌==◌, [], Contains, IsTrue, Option, Some, None, IfOk, IfSome, OnOk, IsSome, IsSomeAnd, max, if◌then◌else◌};
+ghost use Rattle.std.specs.List.{filter_map};
 ghost use Rattle.vk_model.specs.Memory.Suballocation.{IsRequest};
 ghost use Rattle.vma_blocks.specs.PoolInfos.{IsPoolInfo};
 ghost use Rattle.vk_model.specs.Trace.Objects.{Resource};
@@ -35,11 +36,11 @@ pub struct Own {
 pub struct Backing {
     /// What an id has of its own.
     owned: BTreeMap<u32, Own>,
-    pools: Pools,
+    pub(crate) pools: Pools,
     /// The number of each pool, by its id.
-    numbers: BTreeMap<u32, u64>,
+    pub(crate) numbers: BTreeMap<u32, u64>,
     /// The number of the allocation that a resource has in a pool.
-    allocations: BTreeMap<u32, u64>,
+    pub(crate) allocations: BTreeMap<u32, u64>,
 }
 
 impl Model for Backing {
@@ -78,7 +79,7 @@ fn unmap_once(pools: &mut Pools, allocation: u64)
 }
 
 impl Backing {
-    ghost use Rattle.vk_backing.specs.Backed.{Backed, object_of, pool_of, allocation_of, mapping_of, pool_by, IsBacked, IsWhole};
+    ghost use Rattle.vk_backing.specs.Backed.{Backed, object_of, pool_of, allocation_of, mapping_of, pool_by, IsBacked, IsStill, IsWhole, LiesIn};
     ghost use Rattle.vk_backing.specs.Allotted.{allotted};
     ghost use Rattle.vk_backing.specs.Spots.{AreSpots};
     ghost use Rattle.vk_backing.specs.Steps.{Grows, OwnsOr, OwnsAlone, OwnsDedicated, OwnAllots, Maps, KeepsAllotted, MakesPool, PoolAllots, DropsPool, DropAllots, IsUnused, SharesOr, ShareAllots, Asks, Releases, ReleaseAllots};
@@ -119,6 +120,33 @@ impl Backing {
         }
     }
 
+    /// The numbers of the allocations that resources have in pools, in their order; those that have
+    /// none are left out. The only error is want of memory.
+    pub(crate) fn numbers_of(&self, alloc: Global, ids: &[u32]) -> Result<Vec<u64>, AllocError>
+        ensures { IfOk result (λ numbers. numbers.items ≡ filter_map (allocation_of self.now) ids.now) }
+    {
+        let mut numbers = Vec::new(alloc);
+        for id in ids {
+            if let Some(number) = self.allocations.get(id) {
+                numbers.push(*number)?;
+            }
+        }
+        Ok(numbers)
+    }
+
+    /// Resources have no allocations in pools any more.
+    pub(crate) fn forget(&mut self, ids: &[u32])
+        ensures owned { self.new.owned ≡ self.old.owned }
+        ensures pools { self.new.pools ≡ self.old.pools }
+        ensures numbers { self.new.numbers ≡ self.old.numbers }
+        ensures gone { (i : ℕ) → Contains ids.now i → allocation_of self.new i ≡ None }
+        ensures others { (i : ℕ) → (Contains ids.now i → ⊥) → allocation_of self.new i ≡ allocation_of self.old i }
+    {
+        for id in ids {
+            self.allocations.remove(id);
+        }
+    }
+
     /// Where resources lie in pools: some bytes of live memory objects that no id has of its own, and
     /// no two share a byte.
     pub fn spots_apart(&self, memories: &Memories)
@@ -127,6 +155,18 @@ impl Backing {
     {
         let _backing = &self.owned;
         let _memories = memories;
+    }
+
+    /// Where a resource lies in a pool; none where it is in none.
+    pub fn place(&self, id: u32) -> Option<Spot>
+        requires backed { (m : MemoryState) × IsBacked self.now m }
+        ensures lies { IfSome result (λ spot. (pool : ℕ) × LiesIn self.now id pool spot) }
+        ensures none { result ≡ None → allocation_of self.now id ≡ None }
+    {
+        match self.allocations.get(&id) {
+            Some(allocation) => Some(self.pools.place(*allocation)),
+            None => None,
+        }
     }
 
     /// Makes a memory object for an id, which is no resource, and answers its number; none where
@@ -286,6 +326,7 @@ impl Backing {
     /// of a block that held nothing else.
     pub fn release(&mut self, memories: &mut Memories, id: u32) -> Option<u64>
         requires backed { IsBacked self.old memories.old }
+        requires still { IsStill self.old id }
         ensures backed { IsBacked self.new memories.new }
         ensures releases { Releases self.old self.new memories.old memories.new id result }
         ensures whole { IsWhole self.old → IsWhole self.new }

@@ -3,5 +3,7 @@
 #![tactic(auto)]
 
 mod backing;
+mod passes;
 
 pub use backing::{Backing, Own};
+pub use passes::{MovingResource, Passes};

@@ -42,7 +42,7 @@ stays_on s t u a b p k n x at of = let l = b p k n x at of in a p l.0 n x l.1 l.
 -- ---- moves
 
 -- a move that was cancelled, or made
-settled_cases : (flag : Bool) (s t : PoolsState) (pool : ℕ) (m : Moved) (gone : Option ℕ) (its : IsMove s pool m) (ends : IfLive s m.id (Settles flag s m t gone))
+pub settled_cases : (flag : Bool) (s t : PoolsState) (pool : ℕ) (m : Moved) (gone : Option ℕ) (its : IsMove s pool m) (ends : IfLive s m.id (Settles flag s m t gone))
     → let stays : PoolPlace = (settled_is flag s t pool m gone its ends).1 in ((flag ≡ true) × (stays ≡ its.from)) ⊎ ((flag ≡ false) × (stays ≡ its.target))
 unfolding settled_is
 settled_cases true s t pool m _ its ends = inl (refl, refl)
@@ -52,12 +52,12 @@ rebinds : (s : PoolsState) (pool : ℕ) (m : Moved) (its : IsMove s pool m) (l :
 rebinds s pool m its l e = subst (λ (h : Home). Rebinds h its.allocation.target l) (sym its.lies) (subst (λ (t : Option PoolPlace). Rebinds (home.Shared pool its.from) t l) (sym its.reserved) e)
 
 module _ (ignored : List ℕ) (pool : ℕ) (m : Moved) (ms : List Moved) (s mid : PoolsState) (one : Option ℕ) where
-  first_matched : AreMatched s → ArePlanned s pool (m ∷ ms) → MoveEnds ignored s m mid one → AreMatched mid
+  pub first_matched : AreMatched s → ArePlanned s pool (m ∷ ms) → MoveEnds ignored s m mid one → AreMatched mid
   first_matched h plan ends =
       let its = All-head (IsMove s pool) m ms plan.each in let g = settled_is (among m.id ignored) s mid pool m one its ends in
       settled_matched s mid pool m its.allocation its.live g.0 g.1 one g.2 h
 
-  first_planned : ArePlanned s pool (m ∷ ms) → MoveEnds ignored s m mid one → ArePlanned mid pool ms
+  pub first_planned : ArePlanned s pool (m ∷ ms) → MoveEnds ignored s m mid one → ArePlanned mid pool ms
   first_planned plan ends =
       let its = All-head (IsMove s pool) m ms plan.each in let g = settled_is (among m.id ignored) s mid pool m one its ends in
       settled_planned s mid pool m its.allocation its.live g.0 g.1 one g.2 ms plan

@@ -30,7 +30,7 @@ was_at (x ∷ xs) (y ∷ ys) (suc i) zero e lt = (0, omega arith, refl, refl)
 was_at (x ∷ xs) (y ∷ ys) (suc i) (suc j) e lt = let r = was_at xs ys i j (omega (arith, e)) (omega (arith, lt)) in (suc r.0, omega (arith, r.1), r.2, r.3)
 
 -- the number at an index, whatever stands past the end
-number_at : (p : Pool) (i : ℕ) (d : PoolBlock) → i < length p.blocks → get_or (block_numbers p) i 0 ≡ (get_or p.blocks i d).number
+pub number_at : (p : Pool) (i : ℕ) (d : PoolBlock) → i < length p.blocks → get_or (block_numbers p) i 0 ≡ (get_or p.blocks i d).number
 number_at p i d lt = get_or-map (λ (b : PoolBlock). b.number) p.blocks i d 0 lt
 
 -- a block that is left was that memory object

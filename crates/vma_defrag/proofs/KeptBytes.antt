@@ -34,7 +34,7 @@ none_there [] n some = absurd cc
 none_there (o ∷ os) zero some = absurd cc
 none_there (o ∷ os) (suc n) some = none_there os n some
 
-freed_stays : (gone : List ℕ) (m : MemoryState) (x : ℕ) → IsLive (freed m gone) x → object_at (freed m gone) x ≡ object_at m x
+pub freed_stays : (gone : List ℕ) (m : MemoryState) (x : ℕ) → IsLive (freed m gone) x → object_at (freed m gone) x ≡ object_at m x
 freed_stays [] m x live = refl
 freed_stays (n ∷ ns) m x live =
     let rest = freed_stays ns (with_object m n None) x live in
@@ -43,7 +43,7 @@ freed_stays (n ∷ ns) m x live =
       | inr other ↦ rest ∙ at-other m.objects n x None other
     ]
 
-freed_byte : (gone : List ℕ) (m : MemoryState) (x k : ℕ) → IsLive (freed m gone) x → byte_in (freed m gone) x k ≡ byte_in m x k
+pub freed_byte : (gone : List ℕ) (m : MemoryState) (x k : ℕ) → IsLive (freed m gone) x → byte_in (freed m gone) x k ≡ byte_in m x k
 freed_byte gone m x k live = ap (λ (o : Option Object). get_or (bytes_of o) k 0) (freed_stays gone m x live)
 
 -- ---- spots

@@ -1,20 +1,20 @@
-mod Objects
+pub mod Objects
 pub mod KeptBlocks
 pub mod Aligned
-mod Spots
-mod Copying
-mod PartNumbers
+pub mod Spots
+pub mod Copying
+pub mod PartNumbers
 mod PartSteps
 mod Marking
-mod Settles
+pub mod Settles
 mod Chains
-mod Endings
+pub mod Endings
 mod Taking
-mod Following
-mod KeptBytes
+pub mod Following
+pub mod KeptBytes
 mod PassEnds
 mod Indices
-mod Likeness
+pub mod Likeness
 mod Chain
 mod Blocks
 mod GivenBack
@@ -24,4 +24,4 @@ mod Step
 mod Searches
 mod Walk
 mod Turns
-mod Matched
+pub mod Matched

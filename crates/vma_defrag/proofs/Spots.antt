@@ -23,10 +23,10 @@ use Rattle.vma_defrag.specs.Bytes.{MovesBetween}
 use Rattle.vma_defrag.specs.Inner.Held.{Holds}
 use Rattle.vma_defrag.proofs.KeptBlocks.{one_memory, no_block}
 
-block_pool : (p j q l : ℕ) → BlockOf p j ≡ BlockOf q l → p ≡ q
+pub block_pool : (p j q l : ℕ) → BlockOf p j ≡ BlockOf q l → p ≡ q
 block_pool p j q l e = cc
 
-block_index : (p j q l : ℕ) → BlockOf p j ≡ BlockOf q l → j ≡ l
+pub block_index : (p j q l : ℕ) → BlockOf p j ≡ BlockOf q l → j ≡ l
 block_index p j q l e = cc
 
 -- both spots of an allocation that moves

@@ -4,7 +4,7 @@ use Rattle.vk_model.specs.Memory.Allocations.{without}
 use Rattle.vma_pools.specs.State.{Backs}
 use Rattle.vma_pools.proofs.CallLemmas.{live-and}
 use Rattle.vk_backing.specs.declared.backing.Own.{Own}
-use Rattle.vk_backing.specs.Backed.{Backed, own_in, allocation_of, LiesIn, IsBacked, IsWhole}
+use Rattle.vk_backing.specs.Backed.{Backed, own_in, allocation_of, LiesIn, IsBacked, IsStill, IsWhole}
 use Rattle.vk_backing.specs.Allotted.{allotted, Fulfils}
 use Rattle.vk_backing.specs.Steps.{Releases, EndsIn}
 use Rattle.vk_backing.proofs.Owned.{object_is, dedicated_is}
@@ -111,11 +111,12 @@ returns-in_err-allocation-clause-allots c =
 
 pub free-gone-requires-clause-unreserved : goal.free-gone-requires-clause-unreserved
 free-gone-requires-clause-unreserved c =
-    let f = c.self.inside in let m = c.args.memories.now in
+    let f = c.self.inside in let m = c.args.memories.now in let a = c.in_ok-allocation.allocation in
     let b : Backed = record { owned = f.owned.entries; pools = f.pools; numbers = f.numbers.entries; allocations = f.allocations.entries } in
     let h : IsBacked b m = subst (λ (x : Backed). IsBacked x m) (sym c.self.view_is) c.requires.backed in
-    let s = h.shared c.args.id c.in_ok-allocation.allocation (sym c.in_ok-allocation.ensures.value) in
-    live-and f.pools c.in_ok-allocation.allocation s.allocation (λ a. a.target ≡ None) s.live s.free
+    let still : IsStill b c.args.id = subst (λ (x : Backed). IsStill x c.args.id) (sym c.self.view_is) c.requires.still in
+    let s = h.shared c.args.id a (sym c.in_ok-allocation.ensures.value) in
+    live-and f.pools a s.allocation (λ a. a.target ≡ None) s.live (still a s.allocation (sym c.in_ok-allocation.ensures.value) s.live)
 
 pub returns-clause-backed : goal.returns-clause-backed
 returns-clause-backed c =
