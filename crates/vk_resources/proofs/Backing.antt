@@ -1,5 +1,5 @@
 -- What ids are backed with, as what is held has it.
-use Rattle.std.proofs.Common.{◌≡◌, ℕ, ◌+◌, ◌≤◌, length, ap, sym, ◌∙◌, subst, refl, Bool, Option, Some, None, Result, Ok, Err, IfOk, OnOk}
+use Rattle.std.proofs.Common.{◌≡◌, ℕ, List, ◌+◌, ◌≤◌, length, ap, sym, ◌∙◌, subst, refl, Bool, Option, Some, None, Result, Ok, Err, IfOk, OnOk}
 use Rattle.std.specs.Prelude.{IfSome, IsSome}
 use Rattle.std.specs.declared.alloc.AllocError.{AllocError}
 use Rattle.vk_memory.specs.declared.memories.Object.{Object}
@@ -8,10 +8,12 @@ use Rattle.vk_model.specs.declared.resource.PoolInfo.{PoolInfo}
 use Rattle.vk_model.specs.declared.resource.Spot.{Spot}
 use Rattle.vk_model.specs.Trace.Objects.{Resource}
 use Rattle.vma_pools.specs.declared.allocations.Asked.{Asked}
-use Rattle.vk_backing.specs.Backed.{Backed, IsBacked, IsWhole}
-use Rattle.vk_backing.specs.Steps.{Asks, Grows, MakesPool, OwnAllots, Owns, OwnsOr, PoolAllots, ShareAllots, SharesOr}
+use Rattle.vk_backing.specs.Backed.{Backed, number_in, pool_of, IsBacked, IsWhole}
+use Rattle.vk_backing.specs.Steps.{Asks, Grows, MakesPool, OwnAllots, Owns, OwnsAlone, OwnsDedicated, OwnsOr, PoolAllots, ShareAllots, SharesOr}
 use Rattle.vk_backing.specs.Allotted as backing
+use Rattle.vk_backing.proofs.PassingSteps.{dedicates_passing, owns_passing}
 use Rattle.vk_resources.specs.Allocating.{allotted}
+use Rattle.vk_resources.specs.Passes.{KeepsPassing}
 use Rattle.vk_resources.specs.declared.resources.Placed.{Placed}
 use Rattle.vk_resources.specs.Held.{Held, IsConsistent, IsInside, placed}
 use Rattle.vk_resources.specs.Inner.Steps.{FoundOr, MadeOr, PoolMade}
@@ -23,8 +25,8 @@ module _ (old : Held) (backed' : Backed) (memory' : MemoryState) where
   backed_with = record old { backed = backed'; memory = memory' }
 
   module _ (is : IsBacked backed' memory') where
-    made_or : (id t size : ℕ) (o : Option ℕ) → OwnsOr o old.backed backed' old.memory memory' id t size → (IsWhole old.backed → IsWhole backed') → OwnAllots o (allotted old) (allotted backed_with) id t size → MadeOr o old backed_with id t size
-    made_or id t size (Some n) owns whole allots = (
+    made_or : (id t size : ℕ) (o : Option ℕ) → OwnsOr o old.backed backed' old.memory memory' id t size → (IsWhole old.backed → IsWhole backed') → KeepsPassing old backed_with → OwnAllots o (allotted old) (allotted backed_with) id t size → MadeOr o old backed_with id t size
+    made_or id t size (Some n) owns whole passing allots = (
       owns.0.number,
       record {
         memory = owns.0.memory;
@@ -33,6 +35,7 @@ module _ (old : Held) (backed' : Backed) (memory' : MemoryState) where
         owns = subst (λ (k : ℕ). Owns old.backed backed' old.memory memory' id t size k) owns.0.number owns.0;
         backed = is;
         whole = whole;
+        passing = passing;
         allots = allots;
       },
       refl,
@@ -40,11 +43,24 @@ module _ (old : Held) (backed' : Backed) (memory' : MemoryState) where
       owns.1,
       refl,
     )
-    made_or id t size None owns whole allots = (rw (owns.0, owns.1) refl, owns.2, allots)
+    made_or id t size None owns whole passing allots = (rw (owns.0, owns.1) refl, owns.2, allots)
 
-    pub made : (id t size : ℕ) (r : Result (Option ℕ) AllocError) → IfOk r (λ o. OwnsOr o old.backed backed' old.memory memory' id t size) → IfOk r (λ o. IsWhole old.backed → IsWhole backed') → IfOk r (λ o. OwnAllots o (allotted old) (allotted backed_with) id t size) → IfOk r (λ o. MadeOr o old backed_with id t size)
-    made id t size (Ok o) owns whole allots = made_or id t size o owns whole allots
-    made id t size (Err e) owns whole allots = tt
+    pub made : (id t size : ℕ) (r : Result (Option ℕ) AllocError) → IfOk r (λ o. OwnsOr o old.backed backed' old.memory memory' id t size) → IfOk r (λ o. IsWhole old.backed → IsWhole backed') → IfOk r (λ o. KeepsPassing old backed_with) → IfOk r (λ o. OwnAllots o (allotted old) (allotted backed_with) id t size) → IfOk r (λ o. MadeOr o old backed_with id t size)
+    made id t size (Ok o) owns whole passing allots = made_or id t size o owns whole passing allots
+    made id t size (Err e) owns whole passing allots = tt
+
+    -- defragmentations stay where an id gets a memory object
+    same_pools : (id t size : ℕ) (o : Option ℕ) → OwnsOr o old.backed backed' old.memory memory' id t size → (i : ℕ) → pool_of backed' i ≡ pool_of old.backed i
+    same_pools id t size (Some n) owns i = ap (λ (l : List (ℕ × ℕ)). number_in l i) owns.0.numbers
+    same_pools id t size None owns i = ap (λ (b : Backed). pool_of b i) owns.0
+
+    pub own_stays : (id t size : ℕ) (r : Result (Option ℕ) AllocError) → IfOk r (λ o. OwnsOr o old.backed backed' old.memory memory' id t size) → IfOk r (λ o. OwnsAlone o old.backed backed' id) → IfOk r (λ o. KeepsPassing old backed_with)
+    own_stays id t size (Ok o) owns alone = record { passing = λ p h. owns_passing p old.backed backed' h o old.memory memory' id t size owns alone; pools = same_pools id t size o owns }
+    own_stays id t size (Err e) owns alone = tt
+
+    pub dedicated_stays : (id t : ℕ) (asked : Asked) (r : Result (Option ℕ) AllocError) → IfOk r (λ o. OwnsOr o old.backed backed' old.memory memory' id t asked.size) → IfOk r (λ o. OwnsDedicated o old.backed backed' old.memory memory' id t asked) → IfOk r (λ o. KeepsPassing old backed_with)
+    dedicated_stays id t asked (Ok o) owns dedicated = record { passing = λ p h. dedicates_passing p old.backed backed' h o old.memory memory' id t asked.size asked owns dedicated; pools = same_pools id t asked.size o owns }
+    dedicated_stays id t asked (Err e) owns dedicated = tt
 
     found_or : (id pool : ℕ) (asked : Asked) (upper : Bool) (o : Option Spot) → SharesOr o old.backed backed' old.memory memory' id pool asked upper → (IsWhole old.backed → IsWhole backed') → ((r : Resource) → Asks r asked → ShareAllots o (allotted old) (allotted backed_with) id pool r upper) → FoundOr o old backed_with id pool asked upper
     found_or id pool asked upper (Some spot) shares whole allots = (shares, is, whole, refl, refl, refl, allots)

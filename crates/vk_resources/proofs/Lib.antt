@@ -26,3 +26,6 @@ mod Allotting
 mod Making
 pub mod Requests
 mod Remapping
+mod Sparing
+mod WritingBack
+mod CopyingParts

@@ -18,6 +18,8 @@ use Rattle.vma_pools.specs.declared.allocations.Asked.{Asked}
 use Rattle.vk_image_tiles.proofs.LevelBounds.{counts}
 use Rattle.vk_image_transfer.specs.Held.{ImageOf}
 use Rattle.vk_image_transfer.proofs.Places.{place_within}
+use Rattle.vk_backing.specs.Backed.{Backed, pool_of}
+use Rattle.vk_backing.specs.Passing.{ArePassing}
 use Rattle.vk_resources.specs.declared.applied.Applied.{Applied}
 use Rattle.vk_resources.specs.declared.applied.Applied.TheVariants as applied
 use Rattle.vk_resources.specs.declared.resources.Placed.{Placed}
@@ -25,6 +27,7 @@ use Rattle.vk_resources.specs.Held.{Held, IsShaped, IsConsistent}
 use Rattle.vk_resources.specs.Matches.{MatchesLive, Stands}
 use Rattle.vk_resources.specs.Fits.{FitsEntry, FitsPlace}
 use Rattle.vk_resources.specs.Done.{DoneBy}
+use Rattle.vk_resources.specs.Passes.{KeepsPassing}
 use Rattle.vk_resources.specs.Inner.Steps.{KeepsObjects, Makes, MemoryMade, ResourceMade, BindReady, Binds, SharedMade}
 use Rattle.vk_resources.proofs.Placing.{kept_object, grown_object}
 use Rattle.vk_resources.proofs.Keeping.{same_objects}
@@ -108,3 +111,23 @@ pub shared_keeps : (a : Applied) (old new : Held) (i pool size : ℕ) (asked : A
 shared_keeps applied.Done old new i pool size asked upper shape made = λ number was is. grown_object old.memory new.memory made.1.grows number was
 shared_keeps (applied.Bytes bytes) old new i pool size asked upper shape made = absurd made
 shared_keeps applied.NoRoom old new i pool size asked upper shape made = same_objects old new (ap (λ (h : Held). h.memory) made.0)
+
+-- ---- defragmentations that stay
+
+pub same_passing : (old new : Held) → new.backed ≡ old.backed → KeepsPassing old new
+same_passing old new same = record { passing = λ p h. subst (λ (b : Backed). ArePassing p b) (sym same) h; pools = λ i. ap (λ (b : Backed). pool_of b i) same }
+
+pub memory_passing : (a : Applied) (old new : Held) (i t size : ℕ) → MemoryMade a old new i t size → KeepsPassing old new
+memory_passing applied.Done old new i t size made = made.0.passing
+memory_passing (applied.Bytes bytes) old new i t size made = absurd made
+memory_passing applied.NoRoom old new i t size made = same_passing old new (ap (λ (h : Held). h.backed) made.0)
+
+pub resource_passing : (a : Applied) (old new : Held) (i t size asked : ℕ) (shape : Option ImageInfo) → ResourceMade a old new i t size asked shape → KeepsPassing old new
+resource_passing applied.Done old new i t size asked shape made = made.0.passing
+resource_passing (applied.Bytes bytes) old new i t size asked shape made = absurd made
+resource_passing applied.NoRoom old new i t size asked shape made = same_passing old new (ap (λ (h : Held). h.backed) made.0)
+
+pub put_passing : (a : Applied) (old new : Held) (i pool size : ℕ) (asked : Asked) (upper : Bool) (shape : Option ImageInfo) → SharedMade a old new i pool size asked upper shape → KeepsPassing old new
+put_passing applied.Done old new i pool size asked upper shape made = made.1.passing
+put_passing (applied.Bytes bytes) old new i pool size asked upper shape made = absurd made
+put_passing applied.NoRoom old new i pool size asked upper shape made = same_passing old new (ap (λ (h : Held). h.backed) made.0)

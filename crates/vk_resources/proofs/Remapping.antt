@@ -5,13 +5,15 @@ use Rattle.vk_memory.specs.MemoryState.{MemoryState, IsLive, region_of, type_of}
 use Rattle.vk_model.specs.declared.entry.Entry.{Entry}
 use Rattle.vk_model.specs.declared.entry.Entry.TheVariants as entry
 use Rattle.vk_model.specs.declared.resource.ImageInfo.{ImageInfo}
+use Rattle.vk_model.specs.declared.resource.Spot.{Spot}
 use Rattle.vk_model.specs.Trace.Point.{Past}
 use Rattle.vk_model.specs.Trace.Order.{host}
 use Rattle.vk_model.specs.Trace.Objects.{live, made_by, ended_by}
 use Rattle.vk_model.specs.Run.Caches.{Cell}
 use Rattle.vk_model.specs.Run.CachedRuns.{after_host}
 use Rattle.vk_model.specs.World.Bytes.{Byte, resource_at}
-use Rattle.vk_backing.specs.Backed.{Backed, number_in, object_in, mapping_of, IsBacked, IsWhole}
+use Rattle.vk_backing.specs.Backed.{Backed, number_in, object_in, mapping_of, LiesIn, IsBacked, IsWhole}
+use Rattle.vk_backing.specs.Spots.{KeepsAllInfos}
 use Rattle.vk_backing.specs.declared.backing.Own.{Own}
 use Rattle.vk_backing.specs.Steps.{Maps, KeepsAllotted}
 use Rattle.vk_backing.specs.Allotted as allotting
@@ -105,15 +107,36 @@ bound_is s id none o at = go (mapping_of s.backed id) none ∙ ap (λ (x : Optio
 
 -- ---- the same is live, and bytes stay
 
+module _ (old new : Held) (owned : new.backed.owned ≡ old.backed.owned) (numbers : new.backed.numbers ≡ old.backed.numbers) (allocations : new.backed.allocations ≡ old.backed.allocations)
+    (keeps : (i p : ℕ) (s : Spot) → LiesIn old.backed i p s → LiesIn new.backed i p s) (infos : KeepsAllInfos old.backed new.backed) (resources : new.resources ≡ old.resources) (shapes : new.shapes ≡ old.shapes)
+    (lengths : (k : ℕ) → length (region_of new.memory k) ≡ length (region_of old.memory k)) (types : (k : ℕ) → type_of new.memory k ≡ type_of old.memory k) (backed : IsBacked new.backed new.memory) where
+  -- what lies in pools lies where it did
+  pub rebacked_matches : IsWhole new.backed → (alive : ℕ → Option Entry) → Matches alive old → Matches alive new
+  rebacked_matches whole alive m = record {
+    sizes = λ b. ap (λ (x : Option Placed). option_map (λ (p : Placed). p.size) x) (places b) ∙ m.sizes b;
+    shapes = λ i. ap (λ (l : List (ℕ × ImageInfo)). shape_in l i) shapes ∙ m.shapes i;
+    places = λ b p r here of. lies_on alive alive old new b r.place p (m.places b p r (sym (places b) ∙ here) of) (objects (home b r.place)) refl
+        (λ q l. pool_keeps old new b q p backed (ap (λ (ns : List (ℕ × ℕ)). number_in ns q) numbers) (λ n s lies. keeps b n s lies) l);
+    owned = λ i. ap is_some (objects i) ∙ m.owned i;
+    memories = λ k number x of has. lengths number ∙ m.memories k number x of (sym (objects k) ∙ has);
+    types = λ i number t of has. types number ∙ m.types i number t of (sym (objects i) ∙ has);
+    pools = λ i. infos i ∙ m.pools i;
+    pooled = λ i a has. m.pooled i a (ap (λ (ns : List (ℕ × ℕ)). number_in ns i) (sym allocations) ∙ has);
+    whole = whole;
+  }
+    where
+      objects : (i : ℕ) → object_of new i ≡ object_of old i
+      objects i = ap (λ (os : List (ℕ × Own)). object_in os i) owned
+
+      places : (b : ℕ) → placed new b ≡ placed old b
+      places b = ap (λ (l : List (ℕ × Placed)). placed_in l b) resources
+
 module _ (old new : Held) (id : ℕ) (change : ℕ → ℕ) (v : Bool) (remaps : Remaps old new id change v) where
   regions : (k : ℕ) → region_of new.memory k ≡ region_of old.memory k
   regions k = ap (λ (m : MemoryState). region_of m k) remaps.memory ∙ region_stays (bound_of old id) v old.memory k
 
   types : (k : ℕ) → type_of new.memory k ≡ type_of old.memory k
   types k = ap (λ (m : MemoryState). type_of m k) remaps.memory ∙ type_stays (bound_of old id) v old.memory k
-
-  objects : (i : ℕ) → object_of new i ≡ object_of old i
-  objects i = ap (λ (os : List (ℕ × Own)). object_in os i) remaps.maps.owned
 
   places : (b : ℕ) → placed new b ≡ placed old b
   places b = ap (λ (l : List (ℕ × Placed)). placed_in l b) remaps.resources
@@ -122,18 +145,7 @@ module _ (old new : Held) (id : ℕ) (change : ℕ → ℕ) (v : Bool) (remaps :
   images b = ap (λ (l : List (ℕ × ImageInfo)). shape_in l b) remaps.shapes
 
   remapped_matches : (alive : ℕ → Option Entry) → Matches alive old → Matches alive new
-  remapped_matches alive m = record {
-    sizes = λ b. ap (λ (x : Option Placed). option_map (λ (p : Placed). p.size) x) (places b) ∙ m.sizes b;
-    shapes = λ i. images i ∙ m.shapes i;
-    places = λ b p r here of. lies_on alive alive old new b r.place p (m.places b p r (sym (places b) ∙ here) of) (objects (home b r.place)) refl
-        (λ q l. pool_keeps old new b q p remaps.backed (ap (λ (ns : List (ℕ × ℕ)). number_in ns q) remaps.maps.numbers) (λ n s lies. remaps.maps.keeps b n s lies) l);
-    owned = λ i. ap is_some (objects i) ∙ m.owned i;
-    memories = λ k number x of has. ap length (regions number) ∙ m.memories k number x of (sym (objects k) ∙ has);
-    types = λ i number t of has. types number ∙ m.types i number t of (sym (objects i) ∙ has);
-    pools = λ i. remaps.maps.infos i ∙ m.pools i;
-    pooled = λ i a has. m.pooled i a (ap (λ (ns : List (ℕ × ℕ)). number_in ns i) (sym remaps.maps.allocations) ∙ has);
-    whole = remaps.whole m.whole;
-  }
+  remapped_matches alive m = rebacked_matches old new remaps.maps.owned remaps.maps.numbers remaps.maps.allocations remaps.maps.keeps remaps.maps.infos remaps.resources remaps.shapes (λ k. ap length (regions k)) types remaps.backed (remaps.whole m.whole) alive m
 
   cells : (c : Byte) (cell : Cell) → HasCell old c cell → HasCell new c cell
   cells c cell has = stays old new c cell (places (resource_at c)) (images (resource_at c)) (λ p at. regions p.object) (same_host old new c (places (resource_at c)) remaps.cache) has

@@ -17,7 +17,7 @@ use Rattle.vk_model.specs.Trace.Objects.{Resource, live, pool_at}
 use Rattle.vk_transfer.specs.Ran.{AreApart}
 use Rattle.vma_pools.specs.declared.allocations.Asked.{Asked}
 use Rattle.vk_backing.specs.declared.backing.Own.{Own}
-use Rattle.vk_backing.specs.Backed.{Backed, number_in, object_in, pool_of, IsBacked, IsWhole}
+use Rattle.vk_backing.specs.Backed.{Backed, number_in, object_in, pool_of, IsBacked, IsWhole, allocation_of}
 use Rattle.vk_backing.specs.Spots.{AreSpots}
 use Rattle.vk_backing.specs.Steps.{Grows, Shares, ShareAllots, Asks}
 use Rattle.vk_backing.specs.Allotted as allotting
@@ -25,6 +25,8 @@ use Rattle.vk_backing.proofs.Spots.{are_spots, spot_object}
 use Rattle.vk_resources.specs.declared.applied.Applied.{Applied}
 use Rattle.vk_resources.specs.declared.applied.Applied.TheVariants as applied
 use Rattle.vk_resources.specs.declared.resources.Placed.{Placed}
+use Rattle.vk_backing.specs.Passing.{ArePassing}
+use Rattle.vk_backing.proofs.PassingSteps.{shares_passing}
 use Rattle.vk_resources.specs.Allocating.{allotted, NoRoomIsExact, Allots}
 use Rattle.vk_resources.specs.Held.{Held, IsConsistent, placed, placed_in, shape_in, shape_of, object_of}
 use Rattle.vk_resources.specs.Matches.{MatchesLive, Stands, LiesAt, LiesOf, is_own, has_memory, size_made, type_of_place}
@@ -98,9 +100,9 @@ shared_ready old n id pool size asked upper shape spot found some fits absent un
 -- ---- what was made before a resource was put
 
 module _ (old n new : Held) (memory : new.memory ≡ n.memory) (backed : new.backed ≡ n.backed) where
-  pub shared_put : (id pool size : ℕ) (asked : Asked) (upper : Bool) (shape : Option ImageInfo) (spot : Spot) → FoundOr (Some spot) old n id pool asked upper → Grows old.memory n.memory → Puts n new id (record { size = size; object = spot.memory; offset = spot.offset }) shape → new.cache ≡ n.cache
+  pub shared_put : (id pool size : ℕ) (asked : Asked) (upper : Bool) (shape : Option ImageInfo) (spot : Spot) → allocation_of old.backed id ≡ None → FoundOr (Some spot) old n id pool asked upper → Grows old.memory n.memory → Puts n new id (record { size = size; object = spot.memory; offset = spot.offset }) shape → new.cache ≡ n.cache
       → PutIn old new id pool size asked upper shape spot
-  shared_put id pool size asked upper shape spot found grows puts cache = record {
+  shared_put id pool size asked upper shape spot absent found grows puts cache = record {
     shares = subst (λ (b : Backed). Shares old.backed b old.memory new.memory id pool asked upper spot) (sym backed) (subst (λ (m : MemoryState). Shares old.backed n.backed old.memory m id pool asked upper spot) (sym memory) found.0);
     puts = record {
       here = puts.here;
@@ -111,6 +113,10 @@ module _ (old n new : Held) (memory : new.memory ≡ n.memory) (backed : new.bac
     grows = subst (λ (m : MemoryState). Grows old.memory m) (sym memory) grows;
     backed = subst (λ (b : Backed). IsBacked b new.memory) (sym backed) (subst (λ (m : MemoryState). IsBacked n.backed m) (sym memory) found.1);
     whole = λ w. subst IsWhole (sym backed) (found.2 w);
+    passing = record {
+      passing = λ p h. subst (λ (b : Backed). ArePassing p b) (sym backed) (shares_passing p old.backed n.backed h (Some spot) old.memory n.memory id pool asked upper absent found.0);
+      pools = λ i. ap (λ (b : Backed). pool_of b i) backed ∙ ap (λ (l : List (ℕ × ℕ)). number_in l i) found.0.numbers;
+    };
     cache = cache ∙ found.5;
     allots = λ r asks. subst (λ (b : Backed). ShareAllots (Some spot) (allotted old) (allotting.allotted b new.memory) id pool r upper) (sym backed)
         (subst (λ (m : MemoryState). ShareAllots (Some spot) (allotted old) (allotting.allotted n.backed m) id pool r upper) (sym memory) (found.6 r asks));

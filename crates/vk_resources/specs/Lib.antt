@@ -4,5 +4,7 @@ pub mod Matches
 pub mod Allocating
 pub mod Fits
 pub mod Counted
+pub mod Passes
+pub mod PassSteps
 pub mod Done
 pub mod Inner

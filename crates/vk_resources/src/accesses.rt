@@ -64,6 +64,7 @@ impl Resources {
         ensures rooms { IfOk result (λ a. (past : Past) → FitsEntry past entry.now → NoRoomIsExact a self.old entry.now) }
         ensures allots { IfOk result (λ a. (past : Past) → Stands past self.old → FitsEntry past entry.now → Allots a entry.now self.old self.new) }
         ensures counts { OnOk result (Counts entry.now self.old self.new) }
+        ensures backed { OnOk result (self.new.backed ≡ self.old.backed) }
         ensures rest { OnOk result ((past : Past) → Stands past self.old → FitsEntry past entry.now → KeepsRest self.old self.new (is_changed_by self.old past entry.now)) }
     {
         match entry {
@@ -95,6 +96,7 @@ impl Resources {
         ensures rooms { IfOk result (λ a. (past : Past) → FitsEntry past entry.now → NoRoomIsExact a self.old entry.now) }
         ensures allots { IfOk result (λ a. (past : Past) → Stands past self.old → FitsEntry past entry.now → Allots a entry.now self.old self.new) }
         ensures counts { OnOk result (Counts entry.now self.old self.new) }
+        ensures backed { OnOk result (self.new.backed ≡ self.old.backed) }
         ensures rest { OnOk result ((past : Past) → Stands past self.old → FitsEntry past entry.now → KeepsRest self.old self.new (is_changed_by self.old past entry.now)) }
     {
         match entry {

@@ -23,9 +23,10 @@ impl Resources {
     ghost use Rattle.vk_resources.specs.Allocating.{NoRoomIsExact, Allots};
     ghost use Rattle.vk_resources.specs.Fits.{FitsEntry};
     ghost use Rattle.vk_resources.specs.Counted.{Counts};
+    ghost use Rattle.vk_resources.specs.Passes.{HasSpared, KeepsPassing, KeepsSpared};
     ghost use Rattle.vk_resources.specs.Done.{DoneBy, EntryReady};
     ghost use Rattle.vk_resources.specs.Inner.Steps.{KeepsObjects, IsMaking, MadeOr, ResourceMade, MemoryMade, ShapeReady, PutReady, Puts, FoundOr, SharedMade, BindReady, Binds, IsEmpty, Ends};
-    ghost use Rattle.vk_backing.specs.Backed.{pool_by, allocation_of};
+    ghost use Rattle.vk_backing.specs.Backed.{pool_by, allocation_of, IsStill};
     ghost use Rattle.vk_backing.specs.Steps.{Grows};
 
     /// Makes a memory object for an id, and answers its number; none where there is no room.
@@ -195,7 +196,8 @@ impl Resources {
     /// or its place in a pool. A memory object that nothing needs any more is freed, with the room that
     /// the cache has for it.
     fn end(&mut self, id: u32)
-        requires { IsConsistent self.old → IsEmpty self.old id }
+        requires empty { IsConsistent self.old → IsEmpty self.old id }
+        requires still { IsConsistent self.old → IsStill self.old.backed id }
         ensures ended { Ends self.old self.new id }
         ensures consistent { IsConsistent self.old }
     {
@@ -214,6 +216,7 @@ impl Resources {
         ensures rooms { IfOk result (λ a. (past : Past) → FitsEntry past (entry.Buffer id info.now) → NoRoomIsExact a self.old (entry.Buffer id info.now)) }
         ensures allots { IfOk result (λ a. (past : Past) → Stands past self.old → FitsEntry past (entry.Buffer id info.now) → Allots a (entry.Buffer id info.now) self.old self.new) }
         ensures keeps { IfOk result (λ a. KeepsObjects self.old self.new) }
+        ensures passing { IfOk result (λ a. KeepsPassing self.old self.new) }
     {
         let asked = Asked {
             size: (info.size + (BUFFER_UNIT - 1)) / BUFFER_UNIT * BUFFER_UNIT,
@@ -240,6 +243,7 @@ impl Resources {
         ensures rooms { IfOk result (λ a. (past : Past) → FitsEntry past (entry.Image id info.now) → NoRoomIsExact a self.old (entry.Image id info.now)) }
         ensures allots { IfOk result (λ a. (past : Past) → Stands past self.old → FitsEntry past (entry.Image id info.now) → Allots a (entry.Image id info.now) self.old self.new) }
         ensures keeps { IfOk result (λ a. KeepsObjects self.old self.new) }
+        ensures passing { IfOk result (λ a. KeepsPassing self.old self.new) }
     {
         texels_inside();
         let Ok(shape) = Shape::of(info) else {
@@ -273,6 +277,7 @@ impl Resources {
         ensures rooms { IfOk result (λ a. (past : Past) → FitsEntry past entry.now → NoRoomIsExact a self.old entry.now) }
         ensures allots { IfOk result (λ a. (past : Past) → Stands past self.old → FitsEntry past entry.now → Allots a entry.now self.old self.new) }
         ensures keeps { IfOk result (λ a. KeepsObjects self.old self.new) }
+        ensures passing { IfOk result (λ a. KeepsPassing self.old self.new) }
     {
         match entry {
             Entry::Memory { id, info } => self.make_memory(*id, info.memory_type, info.size),
@@ -285,11 +290,13 @@ impl Resources {
     /// Does what an entry does to resources. Mappings are counted, and no access asks for them: an entry
     /// that breaks no rule reaches memory only where it is mapped. The only error is want of memory.
     pub fn apply(&mut self, entry: &Entry) -> Result<Applied, AllocError>
-        requires { EntryReady self.old entry.now }
+        requires ready { EntryReady self.old entry.now }
+        requires spared { HasSpared self.old entry.now }
         ensures done { IfOk result (λ a. (e : ℕ) (past : Past) → Stands past self.old → FitsEntry past entry.now → DoneBy a e entry.now past self.old self.new) }
         ensures rooms { IfOk result (λ a. (past : Past) → FitsEntry past entry.now → NoRoomIsExact a self.old entry.now) }
         ensures allots { IfOk result (λ a. (past : Past) → Stands past self.old → FitsEntry past entry.now → Allots a entry.now self.old self.new) }
         ensures counts { OnOk result (Counts entry.now self.old self.new) }
+        ensures passing { OnOk result (KeepsSpared entry.now self.old self.new) }
         // Of all memory objects that stay only the bytes that memory gets change.
         ensures rest { OnOk result ((past : Past) → Stands past self.old → FitsEntry past entry.now → KeepsRest self.old self.new (is_changed_by self.old past entry.now)) }
     {

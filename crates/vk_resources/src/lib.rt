@@ -6,6 +6,7 @@ mod applied;
 mod caching;
 mod entries;
 mod images;
+mod passes;
 mod pieces;
 mod pools;
 mod resources;

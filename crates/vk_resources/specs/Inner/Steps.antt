@@ -25,7 +25,9 @@ use Rattle.vk_resources.specs.Allocating.{allotted}
 use Rattle.vk_resources.specs.Counted.{bound_of, mapped_at}
 use Rattle.vk_backing.specs.Backed.{IsBacked, IsWhole}
 use Rattle.vk_backing.specs.Steps.{Grows, Owns, Shares, Releases, Maps, MakesPool, DropsPool, OwnAllots, ShareAllots, ReleaseAllots, PoolAllots, DropAllots, KeepsAllotted, Asks}
+use Rattle.vk_backing.specs.PassSteps.{KeepsBacked}
 use Rattle.vk_resources.specs.Held.{Held, placed, shape_of, flat, object_of, LiesShared, IsInside, IsShaped, byte_at, host_at, is_cached_in, IsInAtoms, IsThere, HasCell}
+use Rattle.vk_resources.specs.Passes.{KeepsPassing}
 use Rattle.vk_resources.specs.Rest.{KeepsRest, is_written}
 
 -- ---- bytes
@@ -113,6 +115,7 @@ pub record Makes (old new : Held) (id t size : ℕ) : Type 0 where
   pub owns : Owns old.backed new.backed old.memory new.memory id t size (length old.memory.objects)
   pub backed : IsBacked new.backed new.memory
   pub whole : IsWhole old.backed → IsWhole new.backed
+  pub passing : KeepsPassing old new
   pub allots : OwnAllots (Some (length old.memory.objects)) (allotted old) (allotted new) id t size
 
 -- A memory object was made for an id, and this is its number; or nothing has changed, exactly where there is no room for it.
@@ -155,6 +158,7 @@ pub record PutIn (old new : Held) (id pool size : ℕ) (asked : Asked) (upper : 
   pub grows : Grows old.memory new.memory
   pub backed : IsBacked new.backed new.memory
   pub whole : IsWhole old.backed → IsWhole new.backed
+  pub passing : KeepsPassing old new
   pub cache : new.cache ≡ old.cache
   pub allots : (r : Resource) → Asks r asked → ShareAllots (Some spot) (allotted old) (allotted new) id pool r upper
 
@@ -252,3 +256,15 @@ pub record Remaps (old new : Held) (id : ℕ) (change : ℕ → ℕ) (mapped : B
   pub cache : new.cache ≡ old.cache
   pub whole : IsWhole old.backed → IsWhole new.backed
   pub allots : KeepsAllotted (allotted old) (allotted new)
+
+-- ---- passes
+
+-- Places have been reserved in pools, and nothing else has changed (VMA, "Defragmentation").
+pub record Reserves (old new : Held) : Type 0 where
+  pub memory : new.memory ≡ old.memory
+  pub keeps : KeepsBacked old.backed new.backed
+  pub backed : IsBacked new.backed new.memory
+  pub whole : IsWhole new.backed
+  pub resources : new.resources ≡ old.resources
+  pub shapes : new.shapes ≡ old.shapes
+  pub cache : new.cache ≡ old.cache

@@ -1,6 +1,6 @@
 use Rattle.std.proofs.lemmas.Result.{IfOk-weaker}
 use Rattle.vk_resources.proofs.Applying.{memory_done}
-use Rattle.vk_resources.proofs.Making.{memory_keeps}
+use Rattle.vk_resources.proofs.Making.{memory_keeps, memory_passing}
 use Rattle.vk_resources.proofs.resources.Resources.make.Goals as goal
 
 pub returns-in-Memory-clause-done : goal.returns-in-Memory-clause-done
@@ -9,3 +9,6 @@ returns-in-Memory-clause-done c =
 
 pub returns-in-Memory-clause-keeps : goal.returns-in-Memory-clause-keeps
 returns-in-Memory-clause-keeps c = IfOk-weaker c.make_memory.result _ _ (λ a made. memory_keeps a c.args.self.now c.make_memory.new.self c.in-Memory.id _ _ made) c.make_memory.ensures.made
+
+pub returns-in-Memory-clause-passing : goal.returns-in-Memory-clause-passing
+returns-in-Memory-clause-passing c = IfOk-weaker c.make_memory.result _ _ (λ a made. memory_passing a c.args.self.now c.make_memory.new.self c.in-Memory.id _ _ made) c.make_memory.ensures.made

@@ -5,7 +5,7 @@ use Rattle.vk_model.specs.declared.resource.Kind.TheVariants as kind
 use Rattle.vk_model.specs.Trace.Objects.{of_buffer}
 use Rattle.vk_resources.proofs.Applying.{creates_buffer}
 use Rattle.vk_resources.proofs.Ending.{buffer_fits}
-use Rattle.vk_resources.proofs.Making.{own_done, may_bind, bind_done, resource_keeps, shared_keeps}
+use Rattle.vk_resources.proofs.Making.{own_done, may_bind, bind_done, resource_keeps, shared_keeps, same_passing, resource_passing, put_passing}
 use Rattle.vk_resources.proofs.Keeping.{same_objects}
 use Rattle.vk_resources.proofs.Sharing.{all_elsewhere, shared_done, shared_rooms, shared_allots}
 use Rattle.vk_resources.proofs.resources.Resources.make_buffer.Goals as goal
@@ -61,3 +61,15 @@ returns-in-Pool-clause-keeps c = IfOk-weaker c.make_shared.result _ _ (λ a made
 
 pub returns-in-PoolUpper-clause-keeps : goal.returns-in-PoolUpper-clause-keeps
 returns-in-PoolUpper-clause-keeps c = IfOk-weaker c.make_shared-in-PoolUpper.result _ _ (λ a made. shared_keeps a c.args.self.now c.make_shared-in-PoolUpper.new.self c.args.id c.in-PoolUpper.pool _ _ _ _ made) c.make_shared-in-PoolUpper.ensures.made
+
+pub returns-in-Dedicated-clause-passing : goal.returns-in-Dedicated-clause-passing
+returns-in-Dedicated-clause-passing c = IfOk-weaker c.make_resource.result _ _ (λ a made. resource_passing a c.args.self.now c.make_resource.new.self c.args.id c.in-Dedicated.memory_type _ _ _ made) c.make_resource.ensures.made
+
+pub returns-in_ok-bind-in-Memory-clause-passing : goal.returns-in_ok-bind-in-Memory-clause-passing
+returns-in_ok-bind-in-Memory-clause-passing c = same_passing c.args.self.now c.bind.new.self c.in_ok-bind-in-Memory.ensures.bound.1
+
+pub returns-in-Pool-clause-passing : goal.returns-in-Pool-clause-passing
+returns-in-Pool-clause-passing c = IfOk-weaker c.make_shared.result _ _ (λ a made. put_passing a c.args.self.now c.make_shared.new.self c.args.id c.in-Pool.pool _ _ _ _ made) c.make_shared.ensures.made
+
+pub returns-in-PoolUpper-clause-passing : goal.returns-in-PoolUpper-clause-passing
+returns-in-PoolUpper-clause-passing c = IfOk-weaker c.make_shared-in-PoolUpper.result _ _ (λ a made. put_passing a c.args.self.now c.make_shared-in-PoolUpper.new.self c.args.id c.in-PoolUpper.pool _ _ _ _ made) c.make_shared-in-PoolUpper.ensures.made
