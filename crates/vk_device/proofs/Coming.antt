@@ -37,9 +37,10 @@ use Rattle.vk_backing.specs.Backed.{Backed, allocation_of, info_by}
 use Rattle.vma_pools.specs.declared.allocations.Allocation.{Allocation}
 use Rattle.vma_pools.specs.State.{allocation_at}
 use Rattle.vk_resources.specs.Held.{Held, placed_in, shape_in, IsThere}
-use Rattle.vk_device.specs.Empty.{nothing_backed}
+use Rattle.vk_device.specs.Empty.{none_begun, nothing_backed}
 use Rattle.vk_resources.proofs.Lying.{where_lies}
 use Rattle.vk_resources.specs.declared.resources.Placed.{Placed}
+use Rattle.vk_backing.specs.Passing.{Passing, ArePassing}
 use Rattle.vk_resources.specs.Matches.{MatchesLive, Stands}
 use Rattle.vk_resources.proofs.Matching.{matches_same}
 use Rattle.vk_model.specs.Laws.{GrowthKeeps}
@@ -307,10 +308,10 @@ works_same works past p other are = are ∙ ap (λ (ns : List Node). map (λ n. 
 pub arrived : (d : Device) (s : Stage) (x : Entry) (points : List AnyPoint) → d.count ≡ s.count → past_after s.front.past points ≡ (after_entry d.count x s.front).past → past_after s.front.past points ≡ (after_entry s.count x s.front).past
 arrived d s x points counts are = are ∙ ap (λ (n : ℕ). (after_entry n x s.front).past) counts
 
-pub advanced : (t : List Entry) (steps : List Step) (s : Stage) (x : Entry) (xs : List Entry) (d new : Device) (w : Waiting) (points : List AnyPoint) (i : ℕ) (atoms : List ℕ) → HostDone t steps s x xs atoms d → new.resources ≡ d.resources
+pub advanced : (t : List Entry) (steps : List Step) (s : Stage) (x : Entry) (xs : List Entry) (d new : Device) (w : Waiting) (points : List AnyPoint) (i : ℕ) (atoms : List ℕ) → HostDone t steps s x xs atoms d → new.resources ≡ d.resources → new.passes ≡ d.passes
     → new.count ≡ d.count + 1 → new.waiting ≡ w → IsWaiting w (d.count + 1) (after_entry d.count x s.front) → past_after s.front.past points ≡ (after_entry d.count x s.front).past → length points ≤ i
     → AreWorks new.works.items (past_after s.front.past (take i points)) → IsOffers new.offers (past_after s.front.past (take i points)) s.done → Led t (steps ++ Apply atoms 0 ∷ []) (applied s 0 x xs) new
-advanced t steps s x xs d new w points i atoms h same counts waiting waits are all works offers = record {
+advanced t steps s x xs d new w points i atoms h same passes counts waiting waits are all works offers = record {
   memory = h.memory;
   run = h.run;
   holds = rw same h.holds;
@@ -324,9 +325,23 @@ advanced t steps s x xs d new w points i atoms h same counts waiting waits are a
       (subst (λ (done : List Name). IsOffers new.offers (after_entry s.count x s.front).past done) (sym (applied_done s 0 x xs))
       (subst (λ (l : Past). IsOffers new.offers l s.done) (ap (λ (l : List AnyPoint). past_after s.front.past l) (take_all i points all) ∙ arrived d s x points h.counts are) offers));
   no_parts = applied_parts s x xs h.no_parts;
+  passing = rw (same, passes) h.passing;
+  none_begun = passes ∙ h.none_begun;
 }
 
 -- ---- a new device
+
+pub nothing_passing : (p : Passing) → p ≡ none_begun → (b : Backed) → b ≡ nothing_backed → ArePassing p b
+nothing_passing p none b bare = rw (none, bare) none_passing
+  where
+    none_passing : ArePassing none_begun nothing_backed
+    none_passing = record {
+      pools = λ i d is. absurd cc;
+      closed = λ i d is shut. absurd cc;
+      opened = λ i is. absurd cc;
+      planned = λ n. record { each = λ k d lt. absurd (omega (arith, lt)); once = tt; only = λ i place asked held. absurd (let f = held.live in cc) };
+      movers = record { long = refl; each = λ k lt. absurd (omega (arith, lt)) };
+    }
 
 pub nothing_held : (r : Held) → r.backed ≡ nothing_backed → r.resources ≡ [] → r.shapes ≡ [] → Stands [] r
 nothing_held r backed resources shapes = record { live = nothing_live }

@@ -1,6 +1,6 @@
 -- An entry that is applied, on a device.
 use Rattle.std.proofs.Common.{◌≡◌, ℕ, zero, suc, ◌+◌, ◌<◌, ◌≤◌, arith, List, [], ◌∷◌, ◌++◌, length, Bool, true, false, ◌||◌, ◌==◌, refl, ap, sym, ◌∙◌, subst, cond, zero-add, Option, Some, None}
-use Rattle.std.specs.Prelude.{IsTrue, is_some, option_and_then, map, if◌then◌else◌}
+use Rattle.std.specs.Prelude.{Contains, IsTrue, is_some, option_and_then, map, if◌then◌else◌}
 use Rattle.std.specs.List.{range_with_len}
 use Rattle.std.proofs.lemmas.List.{append_assoc}
 use Rattle.vk_model.proofs.Lists.Truths.{clash}
@@ -30,6 +30,10 @@ use Rattle.vk_resources.specs.declared.resources.Placed.{Placed}
 use Rattle.vk_resources.specs.Done.{Goes, DoneBy, ReadsBytes}
 use Rattle.vk_resources.specs.Fits.{FitsEntry}
 use Rattle.vk_resources.specs.Held.{Held, placed, placed_in, shape_in, shape_of, flat, form_of, byte_at, host_at, seen_at, IsThere, HasCell}
+use Rattle.vk_backing.specs.Backed.{Backed}
+use Rattle.vk_backing.specs.Passing.{Passing, defrag_in}
+use Rattle.vk_resources.specs.Passes.{KeepsSpared, SparesPasses}
+use Rattle.vk_device.specs.Empty.{none_begun}
 use Rattle.vk_resources.specs.Matches.{MatchesLive, size_made}
 use Rattle.vk_resources.proofs.Matching.{live_of_placed, resource_of_placed, some_sized, flat_parts}
 use Rattle.vk_resources.proofs.Lying.{where_lies, lies_there, buffer_lies, there_stays}
@@ -187,9 +191,16 @@ new_cell past mid new (entry.EndDefrag d) atoms c cell has made = absurd (made (
 
 -- ---- the run goes on with it
 
+-- where nothing is defragmented an entry spares all
+pub none_spares : (p : Passing) → p ≡ none_begun → (b : Backed) (x : Entry) → SparesPasses p b x
+none_spares p none b (entry.Free m) = λ moves. let f = subst (λ (q : Passing). Contains q.moving m) none moves in absurd (omega (arith, f.1))
+none_spares p none b (entry.Destroy r) = λ moves. let f = subst (λ (q : Passing). Contains q.moving r) none moves in absurd (omega (arith, f.1))
+none_spares p none b (entry.DropPool q) = λ i d is named. let f = ap (λ (o : Passing). defrag_in o i) (sym none) ∙ is in absurd cc
+none_spares p none b _ = tt
+
 pub host_done : (t : List Entry) (steps : List Step) (s : Stage) (x : Entry) (xs : List Entry) (atoms : List ℕ) (d : Device) (mid new : Held) → NewMemoryHoldsAnything → EntriesGoOn → IsBefore t steps s x xs d → IsTrue (may_go s x)
-    → IsTrue (are_atoms s.front.past x atoms) → IsClean (host s.count x ∷ s.front.past) → HasTouched x atoms d.resources mid → Goes s.count x s.front.past mid new → HostDone t steps s x xs atoms (record d { resources = new })
-host_done t steps s x xs atoms d mid new anything go_on h may are clean touched goes = record {
+    → IsTrue (are_atoms s.front.past x atoms) → IsClean (host s.count x ∷ s.front.past) → HasTouched x atoms d.resources mid → Goes s.count x s.front.past mid new → KeepsSpared x mid new → HostDone t steps s x xs atoms (record d { resources = new })
+host_done t steps s x xs atoms d mid new anything go_on h may are clean touched goes spared = record {
   memory = memory_after_entry past atoms [] x between;
   run = go_on t steps s between x xs atoms 0 [] run h.next may are;
   holds = λ c there. holds_at c there (is_made past c) refl;
@@ -199,6 +210,8 @@ host_done t steps s x xs atoms d mid new anything go_on h may are clean touched 
   counts = h.led.counts;
   offers = h.led.offers;
   no_parts = h.led.no_parts;
+  passing = spared.passing d.passes (rw touched.backed h.led.passing) (none_spares d.passes h.led.none_begun mid.backed x);
+  none_begun = h.led.none_begun;
   sound = h.sound;
 }
   where

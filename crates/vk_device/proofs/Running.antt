@@ -149,10 +149,10 @@ module _ (t : List Entry) (steps : List Step) (s : Stage) (d : Device) (led : Le
   ms = named_piece s.front.past (name_of s.front.past piece)
 
   -- the device when it has run
-  pub has_run : PiecesGoOn → (new : Device) → HaveRun ms (byte_at d.resources) (byte_at new.resources) → Stands s.front.past new.resources → new.resources.resources ≡ d.resources.resources → new.resources.shapes ≡ d.resources.shapes → new.resources.cache ≡ d.resources.cache → new.works ≡ d.works
+  pub has_run : PiecesGoOn → (new : Device) → HaveRun ms (byte_at d.resources) (byte_at new.resources) → Stands s.front.past new.resources → new.resources.resources ≡ d.resources.resources → new.resources.shapes ≡ d.resources.shapes → new.resources.cache ≡ d.resources.cache → new.resources.backed ≡ d.resources.backed → new.passes ≡ d.passes → new.works ≡ d.works
       → new.waiting ≡ d.waiting → new.count ≡ d.count → IsOffers new.offers s.front.past (name_of s.front.past piece ∷ s.done)
       → Led t (steps ++ RunPiece (name_of s.front.past piece) ∷ []) (record s { done = name_of s.front.past piece ∷ s.done }) new
-  has_run go_on new ran matches resources shapes cache works waiting count offers = record {
+  has_run go_on new ran matches resources shapes cache backed passes works waiting count offers = record {
     memory = memory_after_piece ms led.memory;
     run = go_on t steps s led.memory (name_of s.front.past piece) led.run (is_offered s.front.past s.done d.offers led.offers piece at);
     holds = λ c there. record {
@@ -165,6 +165,8 @@ module _ (t : List Entry) (steps : List Step) (s : Stage) (d : Device) (led : Le
     counts = count ∙ led.counts;
     offers = offers;
     no_parts = led.no_parts;
+    passing = rw (passes, backed) led.passing;
+    none_begun = passes ∙ led.none_begun;
   }
     where
       was : (c : Byte) → IsThere new.resources c → IsThere d.resources c

@@ -84,7 +84,7 @@ module _ (answer : List ℕ → ℕ → ℕ) (next : List ℕ → ℕ → List �
     taken = [];
     low = refl;
     picks = refl;
-    touched = record { cells = λ c cell there has. rw (no_atoms (touched_by x) c) has; matches = λ past m. m; resources = refl; shapes = refl; same = λ e. refl };
+    touched = record { cells = λ c cell there has. rw (no_atoms (touched_by x) c) has; matches = λ past m. m; resources = refl; shapes = refl; backed = refl; same = λ e. refl };
   }
 
   lower : (atoms : List ℕ) (i : ℕ) → IsTrue (list_all (λ j. nat_lt j i) atoms) → IsTrue (list_all (λ j. nat_lt j (i + 1)) atoms)
@@ -131,8 +131,8 @@ module _ (answer : List ℕ → ℕ → ℕ) (next : List ℕ → ℕ → List �
     }
 
     -- it is
-    pub takes : (answer held 2 % 2 == 1) ≡ true → (new : Held) → TurnsOver x i mid new → ((past : Past) → Stands past mid → Stands past new) → new.resources ≡ mid.resources → new.shapes ≡ mid.shapes → SoFar answer next x count (i + 1) first (next held 2) old new
-    takes picked new turned matches resources shapes = record {
+    pub takes : (answer held 2 % 2 == 1) ≡ true → (new : Held) → TurnsOver x i mid new → ((past : Past) → Stands past mid → Stands past new) → new.resources ≡ mid.resources → new.shapes ≡ mid.shapes → new.backed ≡ mid.backed → SoFar answer next x count (i + 1) first (next held 2) old new
+    takes picked new turned matches resources shapes backed = record {
       left = one_left.0;
       counts = let c = so.counts in let one = one_left.1 in omega (arith, c, one);
       taken = so.taken ++ i ∷ [];
@@ -145,6 +145,7 @@ module _ (answer : List ℕ → ℕ → ℕ) (next : List ℕ → ℕ → List �
         matches = λ past m. matches past (so.touched.matches past m);
         resources = resources ∙ so.touched.resources;
         shapes = shapes ∙ so.touched.shapes;
+        backed = backed ∙ so.touched.backed;
         same = λ e. absurd (not_empty so.taken e);
       };
     }
@@ -169,10 +170,10 @@ module _ (answer : List ℕ → ℕ → ℕ) (next : List ℕ → ℕ → List �
 
 -- the same by what the scheduler answered and holds then
 module _ (answer : List ℕ → ℕ → ℕ) (next : List ℕ → ℕ → List ℕ) (x : Entry) (count : ℕ) (first : List ℕ) (old : Held) (i : ℕ) (held after : List ℕ) (mid : Held) (below : i < count) (so : SoFar answer next x count i first held old mid) (picked : ℕ) (is : picked ≡ answer held 2) (so_next : after ≡ next held 2) where
-  pub took : picked % 2 ≡ 1 → (new : Held) → TurnsOver x i mid new → ((past : Past) → Stands past mid → Stands past new) → new.resources ≡ mid.resources → new.shapes ≡ mid.shapes → SoFar answer next x count (i + 1) first after old new
-  took one new turned matches resources shapes =
+  pub took : picked % 2 ≡ 1 → (new : Held) → TurnsOver x i mid new → ((past : Past) → Stands past mid → Stands past new) → new.resources ≡ mid.resources → new.shapes ≡ mid.shapes → new.backed ≡ mid.backed → SoFar answer next x count (i + 1) first after old new
+  took one new turned matches resources shapes backed =
       subst (λ (l : List ℕ). SoFar answer next x count (i + 1) first l old new) (sym so_next)
-      (takes answer next x count first old i held mid below so (subst (λ (n : ℕ). (n % 2 == 1) ≡ true) is (eq-eqb (picked % 2) 1 one)) new turned matches resources shapes)
+      (takes answer next x count first old i held mid below so (subst (λ (n : ℕ). (n % 2 == 1) ≡ true) is (eq-eqb (picked % 2) 1 one)) new turned matches resources shapes backed)
 
   pub skipped : (picked % 2 ≡ 1 → ⊥) → SoFar answer next x count (i + 1) first after old mid
   skipped other =

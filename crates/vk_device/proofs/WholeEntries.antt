@@ -18,11 +18,12 @@ use Rattle.vk_resources.specs.Done.{EntryReady, DoneBy}
 use Rattle.vk_resources.specs.Fits.{FitsEntry}
 use Rattle.vk_resources.specs.Held.{Held}
 use Rattle.vk_resources.specs.Matches.{Stands}
+use Rattle.vk_resources.specs.Passes.{HasSpared, KeepsSpared}
 use Rattle.vk_device.specs.declared.device.Device.{Device}
 use Rattle.vk_device.specs.Inner.Clean.{IsClean}
 use Rattle.vk_device.specs.Inner.Ready.{HostDone, Touches, Picks, AdvanceReady}
 use Rattle.vk_device.specs.Led.{Led, IsBefore, Applies, Reads, IsNext}
-use Rattle.vk_device.proofs.Entering.{clean_next, fits_next, host_done, goes_of, reads_of, before, follows_before, reads_before, picked_atoms, applies}
+use Rattle.vk_device.proofs.Entering.{clean_next, fits_next, host_done, none_spares, goes_of, reads_of, before, follows_before, reads_before, picked_atoms, applies}
 
 -- where there was no room nothing was changed, and no atom was picked
 no_change : (a : Applied) (e : ℕ) (x : Entry) (past : Past) (old new : Held) → a ≡ applied.NoRoom → DoneBy a e x past old new → (new ≡ old) × (touched_by x ≡ None)
@@ -76,6 +77,13 @@ module _ (laws : Laws) (answer : List ℕ → ℕ → ℕ) (next : List ℕ → 
           let past = now.2.front.past in
           (past, (touched now.0 now.1 now.2 now.3 now.4).touched.matches past now.4.led.matches, fits_next now.2.count x past (clean_next now.0 now.1 now.2 x now.3 mid laws.sound laws.runs laws.following now.4))
 
+      pub entry_spares : IsNext old x → HasSpared r x
+      entry_spares n =
+          let now = next_then n in
+          let led = now.4.led in
+          let backed = (touched now.0 now.1 now.2 now.3 now.4).touched.backed in
+          (mid.passes, rw backed led.passing, none_spares mid.passes led.none_begun r.backed x)
+
       module _ (t : List Entry) (steps : List Step) (s : Stage) (xs : List Entry) (h : IsBefore t steps s x xs old) where
         abbrev p : Picked
         p = before_entry answer next s held x
@@ -104,14 +112,14 @@ module _ (laws : Laws) (answer : List ℕ → ℕ → ℕ) (next : List ℕ → 
             let same = touches.touched.same (ap (λ (n : ℕ). (atom_picks answer next n 0 (before_entry answer next s held x).held).0) many) in
             (none.0 ∙ same, touches.holds ∙ ap (λ (n : ℕ). (atom_picks answer next n 0 (before_entry answer next s held x).held).1) many ∙ sym (picked t steps s xs h).1)
 
-        module _ (new : Held) (a : Applied) (other : a ≡ applied.NoRoom → ⊥) (done : (e : ℕ) (past : Past) → Stands past r → FitsEntry past x → DoneBy a e x past r new) where
+        module _ (new : Held) (a : Applied) (other : a ≡ applied.NoRoom → ⊥) (done : (e : ℕ) (past : Past) → Stands past r → FitsEntry past x → DoneBy a e x past r new) (spared : KeepsSpared x r new) where
           did : DoneBy a (before_entry answer next s held x).stage.count x (before_entry answer next s held x).stage.front.past r new
           did = done (before_entry answer next s held x).stage.count (before_entry answer next s held x).stage.front.past matches fits
 
           pub was_done : HostDone t (steps ++ (before_entry answer next s held x).steps) (before_entry answer next s held x).stage x xs (picked_atoms answer next t steps s held x xs).0 (record mid { resources = new })
           was_done = host_done t (steps ++ (before_entry answer next s held x).steps) (before_entry answer next s held x).stage x xs (picked_atoms answer next t steps s held x xs).0 mid r new laws.anything laws.entries_go now (picked t steps s xs h).2
               (atoms_below answer next (atom_count (before_entry answer next s held x).stage.front.past x) 0 (atom_count (before_entry answer next s held x).stage.front.past x) (before_entry answer next s held x).held (omega arith)) clean touches.touched
-              (goes_of a (before_entry answer next s held x).stage.count x (before_entry answer next s held x).stage.front.past r new other did)
+              (goes_of a (before_entry answer next s held x).stage.count x (before_entry answer next s held x).stage.front.past r new other did) spared
 
           pub read_then : Reads a s x
           read_then = reads_before answer next t steps s held x xs old a laws.runs laws.lead_on h (reads_of t (steps ++ (before_entry answer next s held x).steps) (before_entry answer next s held x).stage x xs (picked_atoms answer next t steps s held x xs).0 mid r new laws.reads_trace clean now touches.touched a did)
@@ -119,5 +127,5 @@ module _ (laws : Laws) (answer : List ℕ → ℕ → ℕ) (next : List ℕ → 
           pub applied_then : (final : Device) → ((t : List Entry) (steps : List Step) (s : Stage) (xs : List Entry) (atoms : List ℕ) → HostDone t steps s x xs atoms (record mid { resources = new }) → Led t (steps ++ Apply atoms 0 ∷ []) (applied s 0 x xs) final) → Applies answer next a t steps s held x xs final after
           applied_then final advances = applies answer next t steps s held x xs final after touches.holds (advances t (steps ++ (before_entry answer next s held x).steps) (before_entry answer next s held x).stage xs (picked_atoms answer next t steps s held x xs).0 was_done) a other
 
-      pub advance_ready : (new : Held) (a : Applied) → (a ≡ applied.NoRoom → ⊥) → ((e : ℕ) (past : Past) → Stands past r → FitsEntry past x → DoneBy a e x past r new) → IsNext old x → AdvanceReady (record mid { resources = new }) x
-      advance_ready new a other done n = (n.0, n.1 ++ (before_entry answer next n.2 held x).steps, (before_entry answer next n.2 held x).stage, n.3, (picked_atoms answer next n.0 n.1 n.2 held x n.3).0, was_done n.0 n.1 n.2 n.3 n.4 new a other done)
+      pub advance_ready : (new : Held) (a : Applied) → (a ≡ applied.NoRoom → ⊥) → ((e : ℕ) (past : Past) → Stands past r → FitsEntry past x → DoneBy a e x past r new) → KeepsSpared x r new → IsNext old x → AdvanceReady (record mid { resources = new }) x
+      advance_ready new a other done spared n = (n.0, n.1 ++ (before_entry answer next n.2 held x).steps, (before_entry answer next n.2 held x).stage, n.3, (picked_atoms answer next n.0 n.1 n.2 held x n.3).0, was_done n.0 n.1 n.2 n.3 n.4 new a other done spared)

@@ -25,14 +25,16 @@ use Rattle.vk_resources.specs.declared.applied.Applied.TheVariants as applied
 use Rattle.vk_resources.specs.Held.{byte_at, IsThere, HasCell}
 use Rattle.vk_resources.specs.Rest.{KeepsRest, is_written}
 use Rattle.vk_resources.specs.Matches.{Stands}
+use Rattle.vk_backing.specs.Passing.{ArePassing}
 use Rattle.vk_device.specs.declared.device.Device.{Device}
+use Rattle.vk_device.specs.Empty.{none_begun}
 use Rattle.vk_model.specs.Trace.Supported.{is_supported}
 
 -- A device has made ready the clears and copies of a past, in their order.
 abbrev pub AreWorks : List Cmd → Past → Type 0
 AreWorks works past = map Runs works ≡ map (λ n. n.act) (commands_in (nodes past))
 
--- An allowed run of a trace has led to a device: these steps, without caches of queues, to this stage and to some bytes of memory with what the host's cache holds of them, which are those of the device wherever a resource lies. The device has the buffers and the memory objects that are live, the batches that wait, the entries that were applied, the commands that were started, and the pieces that may run next (Vulkan, "Execution and Memory Dependencies").
+-- An allowed run of a trace has led to a device: these steps, without caches of queues, to this stage and to some bytes of memory with what the host's cache holds of them, which are those of the device wherever a resource lies. The device has the buffers and the memory objects that are live, the batches that wait, the entries that were applied, the commands that were started, and the pieces that may run next; and no defragmentation has begun (Vulkan, "Execution and Memory Dependencies").
 pub record Led (t : List Entry) (steps : List Step) (s : Stage) (d : Device) : Type 0 where
   pub memory : HostMemory
   pub run : DirectRun t steps s memory
@@ -43,6 +45,8 @@ pub record Led (t : List Entry) (steps : List Step) (s : Stage) (d : Device) : T
   pub counts : d.count ≡ s.count
   pub offers : IsOffers d.offers s.front.past s.done
   pub no_parts : s.parts ≡ 0
+  pub passing : ArePassing d.passes d.resources.backed
+  pub none_begun : d.passes ≡ none_begun
 
 -- The trace has no fault, and each of its points is of a supported form so far.
 pub record IsSoundTrace (t : List Entry) : Type 0 where

@@ -14,6 +14,7 @@ ghost use Rattle.vk_device.specs.Inner.Ready.{option_count};
 
 use crate::applied::ApplyError;
 use std::alloc::{AllocError, Global};
+use vk_backing::Passes;
 use vk_laws::{
     commands_name_live, defined_runs_follow, direct_runs_are_fresh, direct_runs_are_runs,
     direct_runs_go_on, new_memory_holds_anything, offered_are_pieces, picks_are_runs,
@@ -33,6 +34,8 @@ pub struct Device<'a> {
     alloc: Global,
     /// Its buffers and their memory.
     resources: Resources,
+    /// The defragmentations that have begun.
+    passes: Passes,
     /// The batches that were submitted and not started.
     waiting: Waiting<'a>,
     /// The commands that were started, and which of their pieces have run.
@@ -64,6 +67,7 @@ impl<'a> Device<'a> {
         Device {
             alloc,
             resources: Resources::new(alloc, config),
+            passes: Passes::new(alloc),
             waiting: Waiting::new(alloc),
             offers: Offers::new(alloc),
             works: Vec::new(alloc),
@@ -100,6 +104,7 @@ impl<'a> Device<'a> {
         requires { PrepareReady self.old (point_of point.now) }
         ensures prepared { IfOk result (λ total. Prepares self.old self.new (point_of point.now) total) }
         ensures resources { self.new.resources ≡ self.old.resources }
+        ensures passes { self.new.passes ≡ self.old.passes }
         ensures failed { self.new.failed ≡ self.old.failed }
     {
         let Some(command) = run_at(point) else {

@@ -19,7 +19,9 @@ use Rattle.vk_resources.specs.Held.{Held, IsThere, HasCell}
 use Rattle.vk_resources.specs.Matches.{Stands}
 use Rattle.vk_resources.specs.Fits.{FitsCommand, NamesLive}
 use Rattle.vk_resources.specs.Done.{CommandReady}
+use Rattle.vk_backing.specs.Passing.{ArePassing}
 use Rattle.vk_device.specs.declared.device.Device.{Device}
+use Rattle.vk_device.specs.Empty.{none_begun}
 use Rattle.vk_device.specs.Led.{Led, AreWorks, IsBefore, IsSoundTrace}
 
 -- The commands before an entry that waits for them: how many of each queue; none where it waits for none. When it may be applied goes by them, whichever pieces have run then.
@@ -34,6 +36,7 @@ pub record HasTouched (x : Entry) (atoms : List ℕ) (old new : Held) : Type 0 w
   pub matches : (past : Past) → Stands past old → Stands past new
   pub resources : new.resources ≡ old.resources
   pub shapes : new.shapes ≡ old.shapes
+  pub backed : new.backed ≡ old.backed
   pub same : atoms ≡ [] → new ≡ old
 
 -- The scheduler was asked for each atom that the buffer has in the host's cache, and those have been taken up or given back that it picked (profile).
@@ -52,6 +55,8 @@ pub record HostDone (t : List Entry) (steps : List Step) (s : Stage) (x : Entry)
   pub counts : d.count ≡ s.count
   pub offers : IsOffers d.offers s.front.past s.done
   pub no_parts : s.parts ≡ 0
+  pub passing : ArePassing d.passes d.resources.backed
+  pub none_begun : d.passes ≡ none_begun
   pub sound : IsSoundTrace t
 
 -- An entry of some trace has been.

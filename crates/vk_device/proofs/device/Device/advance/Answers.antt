@@ -10,7 +10,7 @@ use Rattle.vk_device.proofs.Coming.{coming, prepare_ready, prepared_next, past_m
 use Rattle.vk_device.proofs.device.Device.advance.Goals as goal
 
 pub loop-point-init : goal.loop-point-init
-loop-point-init c = record { resources = refl; waiting = refl; count = refl; failed = refl; offers = λ t steps s xs atoms h. h.offers; works = λ t steps s xs atoms h. rw c.reserve.ensures.items h.works }
+loop-point-init c = record { resources = refl; passes = refl; waiting = refl; count = refl; failed = refl; offers = λ t steps s xs atoms h. h.offers; works = λ t steps s xs atoms h. rw c.reserve.ensures.items h.works }
 
 pub prepare-requires : goal.prepare-requires
 prepare-requires c =
@@ -50,13 +50,14 @@ overflow_add-self c =
 pub returns-clause-advanced : goal.returns-clause-advanced
 returns-clause-advanced c t steps s xs atoms h =
     let here = c.in_ok-points.ensures s.front h.waits in
-    advanced t steps s c.args.entry.now xs c.args.self.now _ c.points_after.new.waiting c.as_slice-point-items.result.now c.loop-point.point-index atoms h c.loop-point.invariant.resources
+    advanced t steps s c.args.entry.now xs c.args.self.now _ c.points_after.new.waiting c.as_slice-point-items.result.now c.loop-point.point-index atoms h c.loop-point.invariant.resources c.loop-point.invariant.passes
     (ap (λ (n : ℕ). n + 1) c.loop-point.invariant.count) c.loop-point.invariant.waiting here.1 (rw c.as_slice-point-items.ensures.value here.0) (omega (arith, c.loop-point-test.false))
     (c.loop-point.invariant.works t steps s xs atoms h) (c.loop-point.invariant.offers t steps s xs atoms h)
 
 pub loop-point-preserved : goal.loop-point-preserved
 loop-point-preserved c = record {
   resources = c.prepare.ensures.resources ∙ c.loop-point.invariant.resources;
+  passes = c.prepare.ensures.passes ∙ c.loop-point.invariant.passes;
   waiting = c.in_ok-pieces.ensures.prepared.waiting ∙ c.loop-point.invariant.waiting;
   count = c.in_ok-pieces.ensures.prepared.count ∙ c.loop-point.invariant.count;
   failed = c.prepare.ensures.failed ∙ c.loop-point.invariant.failed;

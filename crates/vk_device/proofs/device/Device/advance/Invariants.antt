@@ -9,6 +9,7 @@ use Rattle.vk_device.proofs.device.Device.advance.Given as goal
 
 abbrev pub invariant-loop-point : goal.invariant-loop-point
 invariant-loop-point l = record {
+  passes : l.self.passes ≡ l.initial.self.passes;
   resources : l.self.resources ≡ l.initial.self.resources;
   waiting : l.self.waiting ≡ l.initial.self.waiting;
   count : l.self.count ≡ l.initial.self.count;

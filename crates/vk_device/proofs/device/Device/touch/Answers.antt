@@ -1,4 +1,5 @@
 use Rattle.std.proofs.Common.{◌+◌, refl, ap, sym, ◌∙◌, subst}
+use Rattle.vk_backing.specs.Allotted.{Allotted}
 use Rattle.vk_resources.specs.Allocating.{allotted}
 use Rattle.vk_device.specs.declared.device.Device.{Device}
 use Rattle.vk_device.proofs.Entering.{clean_next, fits_next}
@@ -24,7 +25,7 @@ loop-atom-preserved g c =
         allotted = ap (λ (d : Device). allotted d.resources) w.self-is ∙ w.turn_over.ensures.allotted ∙ c.loop-atom.invariant.allotted;
         so_far = subst (λ (d : Device). SoFar g.S.Scheduler.answer g.S.Scheduler.next c.args.entry.now c.atoms-atoms.result (c.loop-atom.atom + 1) (g.S.Scheduler.held c.args.sched.now) (g.S.Scheduler.held c.pick.new.self) c.args.self.now.resources d.resources) (sym w.self-is)
             (took g.S.Scheduler.answer g.S.Scheduler.next c.args.entry.now c.atoms-atoms.result (g.S.Scheduler.held c.args.sched.now) c.args.self.now.resources c.loop-atom.atom (g.S.Scheduler.held c.loop-atom.sched) (g.S.Scheduler.held c.pick.new.self)
-            c.loop-atom.self.resources c.loop-atom-test.true c.loop-atom.invariant.so_far c.pick.result c.pick.ensures.answer c.pick.ensures.next w.if-pick-eq1.true w.turn_over.new.self w.in_ok-turn_over.ensures.turned w.turn_over.ensures.matches w.turn_over.ensures.placed w.turn_over.ensures.shapes);
+            c.loop-atom.self.resources c.loop-atom-test.true c.loop-atom.invariant.so_far c.pick.result c.pick.ensures.answer c.pick.ensures.next w.if-pick-eq1.true w.turn_over.new.self w.in_ok-turn_over.ensures.turned w.turn_over.ensures.matches w.turn_over.ensures.placed w.turn_over.ensures.shapes (ap (λ (a : Allotted). a.backed) w.turn_over.ensures.allotted));
       }
       | else-pick-eq1 w ↦ record {
         same = w.self-is ∙ c.loop-atom.invariant.same ∙ ap (λ (d : Device). record c.args.self.now { resources = d.resources }) (sym w.self-is);
