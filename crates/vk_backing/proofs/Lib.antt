@@ -36,7 +36,7 @@ mod Naming
 mod NamedMoves
 mod ChangedPool
 mod Targets
-mod PoolsBy
+pub mod PoolsBy
 mod ChangedMoves
 mod OpenAllots
 mod BeginAllots

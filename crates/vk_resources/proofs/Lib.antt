@@ -29,3 +29,4 @@ mod Remapping
 mod Sparing
 mod WritingBack
 mod CopyingParts
+pub mod AllottedPasses
