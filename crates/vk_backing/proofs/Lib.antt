@@ -26,7 +26,7 @@ mod Numbers
 mod Named
 pub mod Passing
 pub mod PassingSteps
-mod OpenPass
+pub mod OpenPass
 mod KeptObjects
 mod CopyKeeps
 mod PoolsStay

@@ -210,6 +210,7 @@ impl Passes {
         ensures backed { IsBacked backing.new memories.new }
         ensures whole { IsWhole backing.new }
         ensures err { OnErr result (self.new ≡ self.old) }
+        ensures unchanged { OnErr result ((backing.new ≡ backing.old) × (memories.new ≡ memories.old)) }
         ensures allots { OnOk result (IfSome self.old.opened (λ id. EndAllots (allotted backing.old memories.old) self.old (allotted backing.new memories.new) self.new id ignored.now destroyed.now)) }
     {
         let kept = backing.numbers_of(self.alloc, ignored)?;

@@ -50,6 +50,22 @@ pub uncached_kept : (s : Held) (b : ℕ) (test : ℕ → Bool) (f : Cell → Cel
 uncached_kept s b test f none =
     (keeps_same s s.cache, unchanged_cells s b (only_where (λ k. is_some (cached_at s b) && test k) f) (λ k cell. ap (λ (o : Option Placed). if is_some o && test k then f cell else cell) none), objects_rest s s (is_of b) (same_objects s s refl))
 
+-- what isn't held isn't held when a range is forgotten
+fewer_held : (number offset size : ℕ) (old new : Holdings) → ((region : List ℕ) → Changes (only_where (in_atoms offset (length_of.Bytes size)) (forgotten 0)) number old new region region) → (n k : ℕ) → held_at old n k ≡ None → held_at new n k ≡ None
+fewer_held number offset size old new done n k none = go (eqb n number) refl
+  where
+    forgot : (t : Bool) (cell : Cell) → cell.held 0 ≡ None → (if t then forgotten 0 cell else cell).held 0 ≡ None
+    forgot true cell unheld = refl
+    forgot false cell unheld = unheld
+
+    go : (t : Bool) → eqb n number ≡ t → held_at new n k ≡ None
+    go true e =
+        let same = eqb-true n number e in
+        let cell : Cell = record { region = slice_index [] k; held = λ a. held_at old number k } in
+        let now = (done []).bytes k cell (record { held = refl; region = refl }) in
+        ap (λ (m : ℕ). held_at new m k) same ∙ sym now.held ∙ forgot (in_atoms offset (length_of.Bytes size) k) cell (ap (λ (m : ℕ). held_at old m k) (sym same) ∙ none)
+    go false e = (done []).others n k (eqb-false n number e) ∙ none
+
 -- ---- a change of the host's cache alone
 
 module _ (s : Held) (consistent : IsConsistent s) (b : ℕ) (p : Placed) (is : cached_at s b ≡ Some p) where
@@ -188,6 +204,7 @@ module _ (s : Held) (consistent : IsConsistent s) (b : ℕ) (p : Placed) (is : c
 
     pub forgets : Forgets s (record s { cache = cache }) b
     forgets = record {
+      fewer = λ number k none. fewer_held p.object p.offset p.size s.cache cache done number k none;
       gone = λ q k at in_it. let both : Some p ≡ Some q = sym is ∙ at in let same : p ≡ q = cc in subst (λ (r : Placed). IsInAtoms r k → held_at cache r.object k ≡ None) same (gone_at k) in_it;
       others = λ c k ne. others c k ne (placed s c) refl;
     }
@@ -203,7 +220,7 @@ module _ (s : Held) (consistent : IsConsistent s) (b : ℕ) (p : Placed) (is : c
 
 -- where there is nothing to be forgotten
 pub forgets_none : (s : Held) (b : ℕ) → cached_at s b ≡ None → Forgets s s b
-forgets_none s b none = record { gone = λ p k at in_it. let both : None ≡ Some p = sym none ∙ at in absurd cc; others = λ c k ne. refl }
+forgets_none s b none = record { gone = λ p k at in_it. let both : None ≡ Some p = sym none ∙ at in absurd cc; others = λ c k ne. refl; fewer = λ number k none. none }
 
 -- ---- an id that ends
 
@@ -211,18 +228,8 @@ forgets_none s b none = record { gone = λ p k at in_it. let both : None ≡ Som
 pub all_none : (number offset size : ℕ) (old new : Holdings) → ((region : List ℕ) → Changes (only_where (in_atoms offset (length_of.Bytes size)) (forgotten 0)) number old new region region) → ((k : ℕ) → held_at old number k ≡ None) → HoldsSame old new
 all_none number offset size old new done none n k = go (eqb n number) refl
   where
-    forgot : (t : Bool) (cell : Cell) → cell.held 0 ≡ None → (if t then forgotten 0 cell else cell).held 0 ≡ None
-    forgot true cell unheld = refl
-    forgot false cell unheld = unheld
-
-    here : held_at new number k ≡ None
-    here =
-        let cell : Cell = record { region = slice_index [] k; held = λ a. held_at old number k } in
-        let now = (done []).bytes k cell (record { held = refl; region = refl }) in
-        sym now.held ∙ forgot (in_atoms offset (length_of.Bytes size) k) cell (none k)
-
     go : (t : Bool) → eqb n number ≡ t → held_at new n k ≡ held_at old n k
-    go true e = ap (λ (m : ℕ). held_at new m k) (eqb-true n number e) ∙ here ∙ sym (none k) ∙ ap (λ (m : ℕ). held_at old m k) (sym (eqb-true n number e))
+    go true e = let was : held_at old n k ≡ None = ap (λ (m : ℕ). held_at old m k) (eqb-true n number e) ∙ none k in fewer_held number offset size old new done n k was ∙ sym was
     go false e = (done []).others n k (eqb-false n number e)
 
 -- where a resource lies elsewhere its memory object is live when an id has ended

@@ -67,7 +67,7 @@ memory_no_pool None h = refl
 memory_no_pool (Some (entry.Memory i x)) h = refl
 memory_no_pool (Some _) h = absurd cc
 
-resource_no_pool : (o : Option Entry) → IsTrue (holds o is_resource) → option_and_then pool_in o ≡ None
+pub resource_no_pool : (o : Option Entry) → IsTrue (holds o is_resource) → option_and_then pool_in o ≡ None
 resource_no_pool None h = refl
 resource_no_pool (Some (entry.Buffer i x)) h = refl
 resource_no_pool (Some (entry.Image i x)) h = refl

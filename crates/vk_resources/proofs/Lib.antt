@@ -30,3 +30,7 @@ mod Sparing
 mod WritingBack
 mod CopyingParts
 pub mod AllottedPasses
+mod PuttingAnew
+mod MovedPlaces
+mod EndingPasses
+mod EndedCells

@@ -24,7 +24,7 @@ some_more (Some b) P Q more h = more b refl h
 pub inside_of : (m : MemoryState) (backed : Backed) (resources : List (ℕ × Placed)) → IsApart m backed resources → (b : ℕ) (p : Placed) → placed_in resources b ≡ Some p → IsInside m p
 inside_of m backed resources apart b p here = subst (λ (x : Option Placed). IfSome x (IsInside m)) here (apart.inside b)
 
-one_place : (x : Option Placed) (p q : Placed) → x ≡ Some p → x ≡ Some q → p ≡ q
+pub one_place : (x : Option Placed) (p q : Placed) → x ≡ Some p → x ≡ Some q → p ≡ q
 one_place x p q a b = let both : Some p ≡ Some q = sym a ∙ b in cc
 
 pub turned : (p q a b : ℕ) → AreApart p a q b → AreApart q b p a

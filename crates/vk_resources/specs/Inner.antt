@@ -3,3 +3,4 @@ pub mod Rows
 pub mod Steps
 pub mod Works
 pub mod Images
+pub mod PassEnds

@@ -1,16 +1,24 @@
-ghost use Rattle.std.specs.Prelude.{◌≡◌, ◌∷◌, [], Contains, IsSome, None, OnOk};
+ghost use Rattle.std.specs.Prelude.{◌≡◌, ◌∷◌, [], ℕ, Contains, IfOk, IfSome, IsSome, None, OnOk};
 ghost use Rattle.vk_model.specs.Trace.Point.{Past};
-ghost use Rattle.vk_backing.specs.PassSteps.{Copies, Opens};
+ghost use Rattle.vk_model.specs.Trace.Order.{host};
+ghost use Rattle.vk_model.specs.declared.entry.Entry.TheVariants as entry;
+ghost use Rattle.vk_memory.specs.MemoryState.{MemoryState};
+ghost use Rattle.vk_backing.specs.Backed.{IsBacked};
+ghost use Rattle.vk_backing.specs.PassSteps.{AreDestroyed, Closes, Copies, Opens};
 ghost use Rattle.vk_backing.specs.Passing.{ArePassing, CopiesAgree, defrag_in, parts_left};
 
-use crate::resources::Resources;
-use std::alloc::AllocError;
-use vk_backing::Passes;
+use crate::resources::{Placed, Resources};
+use std::alloc::{AllocError, Global};
+use std::collections::BTreeMap;
+use vk_backing::{Backing, Passes};
+use vk_image_tiles::Shape;
 use vk_model::Length;
 
 impl Resources {
     ghost use Rattle.vk_resources.specs.Matches.{Stands};
-    ghost use Rattle.vk_resources.specs.PassSteps.{AreClean, KeepsCells, WritesBack};
+    ghost use Rattle.vk_resources.specs.PassSteps.{AreClean, AreLive, Drops, EndsResources, KeepsCells, WritesBack};
+    ghost use Rattle.vk_resources.specs.Held.{IsConsistent};
+    ghost use Rattle.vk_resources.specs.Inner.PassEnds.{ForgetsEach, Settles};
     ghost use Rattle.vk_resources.specs.Inner.Steps.{KeepsPlaces, Reserves};
 
     /// Writes the bytes of a buffer back that the host has written and that haven't reached memory.
@@ -83,5 +91,115 @@ impl Resources {
         ensures stands { (past : Past) → Stands past self.old → Stands past self.new }
     {
         passes.copy_part(&self.backing, &mut self.memories, part)
+    }
+
+    /// Holds nothing any more of some resources that are in cached memory, and writes nothing back.
+    fn forget_each(&mut self, ids: &[u32])
+        ensures forgets { ForgetsEach ids.now self.old self.new }
+        ensures consistent { IsConsistent self.old }
+    {
+        let _memories = &self.memories;
+        for id in ids {
+            self.forget(*id);
+        }
+    }
+
+    /// Ends the open pass where the host's cache holds nothing of what moves or is destroyed.
+    fn settle(
+        &mut self,
+        passes: &mut Passes,
+        moving: &[u32],
+        ignored: &[u32],
+        destroyed: &[u32],
+    ) -> Result<(), AllocError>
+        requires moving { moving.now ≡ passes.old.moving }
+        requires open { IsSome passes.old.opened }
+        requires passing { ArePassing passes.old self.old.backed }
+        requires agree { CopiesAgree passes.old self.old.backed self.old.memory }
+        requires destroyed { AreDestroyed passes.old self.old.backed destroyed.now }
+        requires unheld { HoldsNoneOf self.old moving.now destroyed.now }
+        requires stands { (past : Past) × Stands past self.old }
+        ensures settles { OnOk result (IfSome passes.old.opened (λ id. Settles passes.old passes.new self.old self.new moving.now ignored.now destroyed.now id)) }
+        ensures passing { OnOk result (ArePassing passes.new self.new.backed) }
+        ensures consistent { IsConsistent self.old }
+    {
+        passes.close(&mut self.backing, &mut self.memories, ignored, destroyed)?;
+        unplace(&mut self.resources, destroyed);
+        unshape(&mut self.shapes, destroyed);
+        place_anew(&mut self.resources, &self.backing, moving);
+        Ok(())
+    }
+
+    /// Ends the open pass: each resource that moved lies at its new place, the host's cache holds
+    /// nothing of it, and the destroyed resources are gone. The only error is want of memory, after
+    /// which the pass is open as before, but nothing is promised of the host's cache.
+    pub fn end_pass(
+        &mut self,
+        passes: &mut Passes,
+        ignored: &[u32],
+        destroyed: &[u32],
+    ) -> Result<(), AllocError>
+        requires open { IsSome passes.old.opened }
+        requires passing { ArePassing passes.old self.old.backed }
+        requires agree { CopiesAgree passes.old self.old.backed self.old.memory }
+        requires clean { AreClean passes.old.moving self.old }
+        requires destroyed { AreDestroyed passes.old self.old.backed destroyed.now }
+        requires stands { (past : Past) × Stands past self.old }
+        ensures closes { OnOk result (IfSome passes.old.opened (λ id. Closes passes.old passes.new self.old.backed self.new.backed self.old.memory self.new.memory id ignored.now destroyed.now)) }
+        ensures passing { OnOk result (ArePassing passes.new self.new.backed) }
+        ensures cells { OnOk result (Drops passes.old.moving self.old self.new) }
+        ensures resources { OnOk result (EndsResources self.old self.new passes.old.moving destroyed.now) }
+        ensures stands { OnOk result ((e d : ℕ) (past : Past) → Stands past self.old → AreLive past destroyed.now → Stands (host e (entry.EndPass d ignored.now destroyed.now) ∷ past) self.new) }
+    {
+        let moving = moving_ids(self.alloc, passes)?;
+        self.forget_each(&moving);
+        self.forget_each(destroyed);
+        self.settle(passes, &moving, ignored, destroyed)
+    }
+}
+
+ghost use Rattle.vk_resources.specs.Inner.PassEnds.{HoldsNoneOf, LeavesOut, PlacesAnew};
+
+/// The ids of the resources that the open pass moves. The only error is want of memory.
+fn moving_ids(alloc: Global, passes: &Passes) -> Result<Vec<u32>, AllocError>
+    ensures { IfOk result (λ ids. ids.items ≡ passes.now.moving) }
+{
+    let mut ids = Vec::new(alloc);
+    for index in 0..passes.moves() {
+        ids.push(passes.nth_id(index))?;
+    }
+    Ok(ids)
+}
+
+/// Some resources lie nowhere any more.
+fn unplace(resources: &mut BTreeMap<u32, Placed>, ids: &[u32])
+    ensures { LeavesOut resources.old.entries resources.new.entries ids.now }
+{
+    for id in ids {
+        resources.remove(id);
+    }
+}
+
+/// Some images are no more.
+fn unshape(shapes: &mut BTreeMap<u32, Shape>, ids: &[u32])
+    ensures { LeavesOut shapes.old.entries shapes.new.entries ids.now }
+{
+    for id in ids {
+        shapes.remove(id);
+    }
+}
+
+/// Some resources lie where they have their places in pools.
+fn place_anew(resources: &mut BTreeMap<u32, Placed>, backing: &Backing, ids: &[u32])
+    requires { (m : MemoryState) × IsBacked backing.now m }
+    ensures { PlacesAnew backing.now ids.now resources.old.entries resources.new.entries }
+{
+    for id in ids {
+        if let Some(spot) = backing.place(*id) {
+            if let Some(placed) = resources.get_mut(id) {
+                placed.object = spot.memory;
+                placed.offset = spot.offset;
+            }
+        }
     }
 }

@@ -225,10 +225,11 @@ LiesElsewhere s id b p = ((i : ℕ) × (i ≡ id → ⊥) × (object_of s i ≡ 
 abbrev pub IsEmpty : Held → ℕ → Type 0
 IsEmpty s id = (b : ℕ) (p : Placed) → (b ≡ id → ⊥) → placed s b ≡ Some p → LiesElsewhere s id b p
 
--- Nothing is held any more of a resource in cached memory, nor of its atoms; what is held of others hasn't changed.
+-- Nothing is held any more of a resource in cached memory, nor of its atoms; what is held of others hasn't changed, and no byte is held that wasn't.
 pub record Forgets (old new : Held) (id : ℕ) : Type 0 where
   pub gone : (p : Placed) (k : ℕ) → cached_at old id ≡ Some p → IsInAtoms p k → held_at new.cache p.object k ≡ None
   pub others : (b k : ℕ) → (b ≡ id → ⊥) → host_at new (in_buffer b k) ≡ host_at old (in_buffer b k)
+  pub fewer : (number k : ℕ) → held_at old.cache number k ≡ None → held_at new.cache number k ≡ None
 
 -- An id has ended: its resource isn't there any more, nor what the host's cache held of it, nor the memory object or the place in a pool that it had, and nothing else has changed (Vulkan, "Object Lifetime").
 pub record Ends (old new : Held) (id : ℕ) : Type 0 where
