@@ -15,5 +15,5 @@ IsDefragAs b (Some pool) o = (d : DefragState) × (o ≡ Some d) × (pool_of b p
 -- A device has the defragmentations that have begun and not ended after these points, and its open pass is the one that has begun and not ended (VMA, "Defragmentation").
 pub record MatchesPasses (past : Past) (p : Passing) (b : Backed) : Type 0 where
   pub defrags : (i : ℕ) → IsDefragAs b (pool_of_defrag past i) (backing.defrag_in p i)
-  pub open : (i : ℕ) → p.opened ≡ Some i → IsTrue (in_pass past i)
+  pub going : (i : ℕ) → p.opened ≡ Some i → IsTrue (in_pass past i)
   pub opened : (i : ℕ) → IsTrue (in_pass past i) → p.opened ≡ Some i
