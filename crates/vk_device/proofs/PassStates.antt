@@ -1,6 +1,6 @@
 -- Which defragmentations have begun, and which passes are open, when an entry has come.
-use Rattle.std.proofs.Common.{◌≡◌, ℕ, ◌+◌, ◌<◌, ◌≤◌, List, [], ◌∷◌, ◌++◌, map, Bool, true, false, cond, ◌||◌, ◌==◌, nat_lt, IsTrue, refl, ap, sym, ◌∙◌, subst, arith, Option, Some, None}
-use Rattle.std.specs.Prelude.{Contains, count_by, is_some, option_and_then, if◌then◌else◌, ⊤}
+use Rattle.std.proofs.Common.{◌≡◌, ℕ, ◌+◌, ◌≤◌, List, [], ◌∷◌, ◌++◌, map, Bool, true, false, cond, ◌||◌, ◌==◌, nat_lt, IsTrue, refl, ap, sym, ◌∙◌, subst, arith, Option, Some, None}
+use Rattle.std.specs.Prelude.{Contains, count_by, option_and_then, if◌then◌else◌}
 use Rattle.std.proofs.lemmas.Bool.{eqb-true, eq-eqb, ne_eqb, ltb-true, lt-ltb, ltb-false, false_from_ne_true}
 use Rattle.std.proofs.lemmas.List.Sums.{sum_by-cons}
 use Rattle.std.proofs.lemmas.List.Elements.{Contains-append_right}
@@ -19,30 +19,24 @@ use Rattle.vk_model.proofs.Lists.Members.{contains-head, contains-tail, map_has,
 use Rattle.vk_model.proofs.Lists.Truths.{unless}
 use Rattle.vk_laws.proofs.Living.Passing.{none_open, rules_kept}
 use Rattle.vk_device.specs.Inner.Clean.{IsClean}
-use Rattle.vk_device.proofs.Unbroken.{BreaksNone, breaks_none, new_made, names_live}
+use Rattle.vk_device.specs.Inner.Fits.{is_of_passes}
+use Rattle.vk_device.proofs.Unbroken.{BreaksNone, new_made, names_live}
 
 -- ---- entries of no defragmentation
 
 -- an entry neither begins nor ends a defragmentation or a pass
-abbrev pub OfNoPass : Entry → Type 0
-OfNoPass (entry.Defrag i q n m) = ⊥
-OfNoPass (entry.Pass d) = ⊥
-OfNoPass (entry.EndPass d kept lost) = ⊥
-OfNoPass (entry.EndDefrag d) = ⊥
-OfNoPass _ = ⊤
-
 pub record NoPass (x : Entry) : Type 0 where
   pub makes : defrag_in x ≡ None
   pub ends : (d : ℕ) → x ≡ entry.EndDefrag d → ⊥
   pub first : begins x ≡ None
   pub last : finishes x ≡ None
 
-pub no_pass : (x : Entry) → OfNoPass x → NoPass x
-no_pass (entry.Defrag i q n m) of = absurd of
-no_pass (entry.Pass d) of = absurd of
-no_pass (entry.EndPass d kept lost) of = absurd of
-no_pass (entry.EndDefrag d) of = absurd of
-no_pass _ of = record { makes = refl; ends = λ d is. cc; first = refl; last = refl }
+pub no_pass : (x : Entry) → is_of_passes x ≡ false → NoPass x
+no_pass (entry.Defrag i q n m) is = absurd cc
+no_pass (entry.Pass d) is = absurd cc
+no_pass (entry.EndPass d kept lost) is = absurd cc
+no_pass (entry.EndDefrag d) is = absurd cc
+no_pass _ is = record { makes = refl; ends = λ d is. cc; first = refl; last = refl }
 
 -- ---- the rules
 
