@@ -45,7 +45,7 @@ mod CopyAllots
 mod Cleared
 mod PassEnded
 mod CloseAllots
-mod Opening
+pub mod Opening
 mod Gone
 mod Closing
 mod Closed

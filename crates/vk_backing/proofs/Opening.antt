@@ -129,9 +129,10 @@ module _ (old : Passing) (b : Backed) (m : MemoryState) (hp : ArePassing old b) 
       pub opened_is : Opens old new b reserving id
       opened_is = record { was = d; now = e; there = was; here = here; others = others; opened = opened; begun = begun; keeps = reserved_keeps }
 
-      -- all parts are left
-      pub opened_agree : (k : MemoryState) → CopiesAgree new reserving k
-      opened_agree k =
-          let moves = pass_moves d.max_bytes d.max_moves (numbered_blocks begun.kept.pool.blocks) begun.listed in
-          subst (λ (o : Option DefragState). AreCopied t k (moves_by o) (left_by o)) (sym (is_open ∙ ap (λ (x : DefragState). Some x) begun.state))
-          (λ i at from to lt within between. inl (below_has (sum_by part_count moves) (part_at moves i at) (part_below moves i at lt within)))
+-- ---- no part has been copied
+
+pub opens_agree : (old new : Passing) (before after : Backed) (id : ℕ) → Opens old new before after id → (m : MemoryState) → CopiesAgree new after m
+opens_agree old new before after id o m =
+    let moves = pass_moves o.was.max_bytes o.was.max_moves (numbered_blocks o.begun.kept.pool.blocks) o.begun.listed in
+    subst (λ (x : Option DefragState). AreCopied after.pools m (moves_by x) (left_by x)) (sym (open_is new id o.opened ∙ o.here ∙ ap (λ (x : DefragState). Some x) o.begun.state))
+    (λ i at from to lt within between. inl (below_has (sum_by part_count moves) (part_at moves i at) (part_below moves i at lt within)))

@@ -11,6 +11,7 @@ use Rattle.vma_pools.specs.declared.allocations.Asked.{Asked}
 use Rattle.vk_backing.specs.Backed.{Backed, number_in, pool_of, IsBacked, IsWhole}
 use Rattle.vk_backing.specs.Steps.{Asks, Grows, MakesPool, OwnAllots, Owns, OwnsAlone, OwnsDedicated, OwnsOr, PoolAllots, ShareAllots, SharesOr}
 use Rattle.vk_backing.specs.Allotted as backing
+use Rattle.vk_backing.proofs.AgreeingSteps.{dedicates_agree, owns_agree}
 use Rattle.vk_backing.proofs.PassingSteps.{dedicates_passing, owns_passing}
 use Rattle.vk_resources.specs.Allocating.{allotted}
 use Rattle.vk_resources.specs.Passes.{KeepsPassing}
@@ -49,18 +50,27 @@ module _ (old : Held) (backed' : Backed) (memory' : MemoryState) where
     made id t size (Ok o) owns whole passing allots = made_or id t size o owns whole passing allots
     made id t size (Err e) owns whole passing allots = tt
 
-    -- defragmentations stay where an id gets a memory object
     same_pools : (id t size : ℕ) (o : Option ℕ) → OwnsOr o old.backed backed' old.memory memory' id t size → (i : ℕ) → pool_of backed' i ≡ pool_of old.backed i
     same_pools id t size (Some n) owns i = ap (λ (l : List (ℕ × ℕ)). number_in l i) owns.0.numbers
     same_pools id t size None owns i = ap (λ (b : Backed). pool_of b i) owns.0
 
-    pub own_stays : (id t size : ℕ) (r : Result (Option ℕ) AllocError) → IfOk r (λ o. OwnsOr o old.backed backed' old.memory memory' id t size) → IfOk r (λ o. OwnsAlone o old.backed backed' id) → IfOk r (λ o. KeepsPassing old backed_with)
-    own_stays id t size (Ok o) owns alone = record { passing = λ p h. owns_passing p old.backed backed' h o old.memory memory' id t size owns alone; pools = same_pools id t size o owns }
-    own_stays id t size (Err e) owns alone = tt
+    -- defragmentations stay where an id gets a memory object
+    module _ (before : IsBacked old.backed old.memory) (grows : Grows old.memory memory') where
+      pub own_stays : (id t size : ℕ) (r : Result (Option ℕ) AllocError) → IfOk r (λ o. OwnsOr o old.backed backed' old.memory memory' id t size) → IfOk r (λ o. OwnsAlone o old.backed backed' id) → IfOk r (λ o. KeepsPassing old backed_with)
+      own_stays id t size (Ok o) owns alone = record {
+        passing = λ p h. owns_passing p old.backed backed' h o old.memory memory' id t size owns alone;
+        agree = λ p h agree. owns_agree p old.backed backed' h old.memory memory' before agree o id t size grows owns alone;
+        pools = same_pools id t size o owns;
+      }
+      own_stays id t size (Err e) owns alone = tt
 
-    pub dedicated_stays : (id t : ℕ) (asked : Asked) (r : Result (Option ℕ) AllocError) → IfOk r (λ o. OwnsOr o old.backed backed' old.memory memory' id t asked.size) → IfOk r (λ o. OwnsDedicated o old.backed backed' old.memory memory' id t asked) → IfOk r (λ o. KeepsPassing old backed_with)
-    dedicated_stays id t asked (Ok o) owns dedicated = record { passing = λ p h. dedicates_passing p old.backed backed' h o old.memory memory' id t asked.size asked owns dedicated; pools = same_pools id t asked.size o owns }
-    dedicated_stays id t asked (Err e) owns dedicated = tt
+      pub dedicated_stays : (id t : ℕ) (asked : Asked) (r : Result (Option ℕ) AllocError) → IfOk r (λ o. OwnsOr o old.backed backed' old.memory memory' id t asked.size) → IfOk r (λ o. OwnsDedicated o old.backed backed' old.memory memory' id t asked) → IfOk r (λ o. KeepsPassing old backed_with)
+      dedicated_stays id t asked (Ok o) owns dedicated = record {
+        passing = λ p h. dedicates_passing p old.backed backed' h o old.memory memory' id t asked.size asked owns dedicated;
+        agree = λ p h agree. dedicates_agree p old.backed backed' h old.memory memory' before agree o id t asked.size asked grows owns dedicated;
+        pools = same_pools id t asked.size o owns;
+      }
+      dedicated_stays id t asked (Err e) owns dedicated = tt
 
     found_or : (id pool : ℕ) (asked : Asked) (upper : Bool) (o : Option Spot) → SharesOr o old.backed backed' old.memory memory' id pool asked upper → (IsWhole old.backed → IsWhole backed') → ((r : Resource) → Asks r asked → ShareAllots o (allotted old) (allotted backed_with) id pool r upper) → FoundOr o old backed_with id pool asked upper
     found_or id pool asked upper (Some spot) shares whole allots = (shares, is, whole, refl, refl, refl, allots)

@@ -1,6 +1,7 @@
 -- A part of the open pass is copied: no byte of a resource changes.
-use Rattle.std.proofs.Common.{◌≡◌, ◌∙◌, ℕ, ◌+◌, ◌*◌, ◌<◌, ◌≤◌, get_or, slice_index, true, false, Option, Some, None, refl, sym, ap, subst, arith, inl, inr, ◌⊎◌}
+use Rattle.std.proofs.Common.{◌≡◌, ◌∙◌, ℕ, ◌+◌, ◌*◌, ◌<◌, ◌≤◌, get_or, slice_index, Bool, true, false, Option, Some, None, refl, sym, ap, subst, arith, inl, inr, ◌⊎◌}
 use Rattle.std.specs.Prelude.{IfSome, IsSome, Contains}
+use Rattle.std.proofs.lemmas.Bool.{cases_eq}
 use Rattle.std.proofs.lemmas.List.{get_or_default}
 use Rattle.vk_memory.specs.declared.memories.Object.{Object}
 use Rattle.vk_memory.specs.MemoryState.{MemoryState, object_at, region_of, type_of, type_in}
@@ -18,13 +19,13 @@ use Rattle.vma_defrag.specs.Inner.Held.{Holds}
 use Rattle.vma_defrag.specs.Plans.{IsMove}
 use Rattle.vma_defrag.proofs.Copying.{copied_keeps, copied_out, part_inside}
 use Rattle.vma_defrag.proofs.Objects.{keeps_length}
-use Rattle.vma_defrag.proofs.Spots.{holds_apart, has_object, shared_holds, to_holds, to_size}
+use Rattle.vma_defrag.proofs.Spots.{from_holds, holds_apart, has_object, shared_holds, to_holds, to_size}
 use Rattle.vk_backing.specs.Backed.{IsBacked}
 use Rattle.vk_backing.specs.PassSteps.{Copies}
 use Rattle.vk_backing.specs.Passing.{Passing, ArePassing, open_moves}
-use Rattle.vk_backing.proofs.Passing.{lies_spot, move_is}
+use Rattle.vk_backing.proofs.Passing.{lies_spot, move_is, move_named}
 use Rattle.vk_resources.specs.declared.resources.Placed.{Placed}
-use Rattle.vk_resources.specs.Held.{Held, IsConsistent, IsInside, LiesShared, placed, byte_at}
+use Rattle.vk_resources.specs.Held.{Held, IsConsistent, IsInside, LiesShared, object_of, placed, byte_at}
 use Rattle.vk_resources.specs.Matches.{Matches, Stands}
 use Rattle.vk_resources.proofs.CachedBytes.{caching_typed}
 use Rattle.vk_resources.proofs.Lying.{Lies, byte_stays, lies_within}
@@ -71,7 +72,7 @@ module _ (s : Held) (consistent : IsConsistent s) (memory' : MemoryState) (keeps
     live = rebacked_matches s recopied refl refl refl (λ i q x l. l) (λ i. refl) refl refl (keeps_length s.memory memory' keeps) typed is m.live.whole (live past) m.live;
   }
 
--- ---- the place that is reserved for a move is apart from all resources
+-- ---- the place that is reserved for a move is apart from all resources, and that where it lies from all others
 
 module _ (s : Held) (consistent : IsConsistent s) (p : Passing) (h : ArePassing p s.backed) (alive : ℕ → Option Entry) (m : Matches alive s) (mv : Moved) (there : Contains (open_moves p) mv) (from to : Spot) (between : MovesBetween s.backed.pools mv.id from to) where
   back : IsBacked s.backed s.memory
@@ -80,22 +81,55 @@ module _ (s : Held) (consistent : IsConsistent s) (p : Passing) (h : ArePassing 
   reserved : Holds s.backed.pools mv.id true to
   reserved = let i = move_is p s.backed h mv there in to_holds s.backed.pools back.pools i.0 mv i.1 from to between
 
+  taken : Holds s.backed.pools mv.id false from
+  taken = let i = move_is p s.backed h mv there in from_holds s.backed.pools back.pools i.0 mv i.1 from to between
+
+  lies_held : (b n : ℕ) (q : Placed) (l : LiesShared s.backed s.memory b n q) → Holds s.backed.pools l.lies.number false l.spot
+  lies_held b n q l =
+      let x = l.lies in
+      shared_holds s.backed.pools back.pools x.number false n x.place x.allocation.asked (record { allocation = x.allocation; live = x.live; there = ap shared_place x.lies; asks = refl }) l.spot
+      (subst (λ (h : Home). IsSpotOf s.backed.pools h x.allocation.asked l.spot) x.lies (lies_spot s.backed b n l.spot x))
+
   in_pool : (b n : ℕ) (q : Placed) → LiesShared s.backed s.memory b n q → q.object ≡ to.memory → AreApart q.offset q.size to.offset to.size
   in_pool b n q l same =
-      let x = l.lies in
-      let held = shared_holds s.backed.pools back.pools x.number false n x.place x.allocation.asked (record { allocation = x.allocation; live = x.live; there = ap shared_place x.lies; asks = refl }) l.spot
-      (subst (λ (h : Home). IsSpotOf s.backed.pools h x.allocation.asked l.spot) x.lies (lies_spot s.backed b n l.spot x)) in
-      elim (holds_apart s.backed.pools back.pools s.memory back.backs back.matched x.number mv.id false true l.spot to held reserved (λ e. let f = e.1 in cc) (l.object ∙ same)) [
+      elim (holds_apart s.backed.pools back.pools s.memory back.backs back.matched l.lies.number mv.id false true l.spot to (lies_held b n q l) reserved (λ e. let f = e.1 in cc) (l.object ∙ same)) [
         | inl low ↦ inl (omega (arith, low, l.offset, l.within))
         | inr high ↦ inr (omega (arith, high, l.offset))
       ]
+
+  -- the same where it lies, but for what moves
+  from_pool : (b n : ℕ) (q : Placed) → LiesShared s.backed s.memory b n q → q.object ≡ from.memory → AreApart q.offset q.size from.offset from.size ⊎ Contains p.moving b
+  from_pool b n q l same = elim (cases_eq l.lies.number mv.id) [
+    | inl is ↦ (let named = move_named p s.backed h mv there in
+        inr (subst (λ (i : ℕ). Contains p.moving i) (back.one named.0 b mv.id named.2 (l.lies.has ∙ ap (λ (k : ℕ). Some k) is)) named.1))
+    | inr other ↦ inl (beside other)
+  ]
+    where
+      beside : (l.lies.number ≡ mv.id → ⊥) → AreApart q.offset q.size from.offset from.size
+      beside other =
+          elim (holds_apart s.backed.pools back.pools s.memory back.backs back.matched l.lies.number mv.id false false l.spot from (lies_held b n q l) taken (λ e. other e.0) (l.object ∙ same)) [
+            | inl low ↦ inl (omega (arith, low, l.offset, l.within))
+            | inr high ↦ inr (omega (arith, high, l.offset))
+          ]
+
+  -- no id has the memory object of a place in a pool of its own
+  unowned : (i x : ℕ) (r : Bool) (spot : Spot) → Holds s.backed.pools mv.id r spot → object_of s i ≡ Some x → x ≡ spot.memory → ⊥
+  unowned i x r spot held own same = back.apart i spot.memory (BlockOf held.pool held.memory.index) (own ∙ ap (λ (n : ℕ). Some n) same) (has_object s.backed.pools back.pools s.memory back.backs back.matched mv.id r spot held)
 
   pub target_apart : (b : ℕ) (q : Placed) → placed s b ≡ Some q → q.object ≡ to.memory → AreApart q.offset q.size to.offset to.size
   target_apart b q here same =
       let l = live_of_placed alive s b q m here in
       elim (lies_in alive s b l.resource.place q (m.places b q l.resource here (resource_of_placed alive b q l))) [
-        | inl own ↦ absurd (back.apart (home b l.resource.place) to.memory (BlockOf reserved.pool reserved.memory.index) (own ∙ ap (λ (n : ℕ). Some n) same) (has_object s.backed.pools back.pools s.memory back.backs back.matched mv.id true to reserved))
+        | inl own ↦ absurd (unowned (home b l.resource.place) q.object true to reserved own same)
         | inr shared ↦ in_pool b shared.0 q shared.1 same
+      ]
+
+  pub source_apart : (b : ℕ) (q : Placed) → placed s b ≡ Some q → q.object ≡ from.memory → AreApart q.offset q.size from.offset from.size ⊎ Contains p.moving b
+  source_apart b q here same =
+      let l = live_of_placed alive s b q m here in
+      elim (lies_in alive s b l.resource.place q (m.places b q l.resource here (resource_of_placed alive b q l))) [
+        | inl own ↦ absurd (unowned (home b l.resource.place) q.object false from taken own same)
+        | inr shared ↦ from_pool b shared.0 q shared.1 same
       ]
 
 -- ---- a part is copied

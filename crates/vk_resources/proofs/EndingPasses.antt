@@ -22,6 +22,7 @@ use Rattle.vk_backing.specs.PassSteps.{AreDestroyed}
 use Rattle.vk_backing.specs.Spots.{AreSpots}
 use Rattle.vk_backing.proofs.Spots.{are_spots, spot_object}
 use Rattle.vk_resources.specs.declared.resources.Placed.{Placed}
+use Rattle.vk_resources.specs.Allocating.{allotted}
 use Rattle.vk_resources.specs.Held.{Held, IsConsistent, LiesShared, placed, placed_in, shape_of, shape_in, object_of}
 use Rattle.vk_resources.specs.Matches.{Matches, Stands, LiesAt, LiesOf, has_memory, in_pool, size_made, type_made}
 use Rattle.vk_resources.specs.PassSteps.{AreLive, EndsResources}
@@ -48,11 +49,14 @@ have_homes alive s m b p here = let l = live_of_placed alive s b p m here in go 
 
 -- ---- what was forgotten stands
 
+pub forgot_allotted : (ids : List ℕ) (old new : Held) → ForgetsEach ids old new → allotted new ≡ allotted old
+forgot_allotted ids old new f = ap (λ (b : Backed). allotting.allotted b new.memory) f.backed ∙ ap (λ (x : MemoryState). allotting.allotted old.backed x) f.memory
+
 pub forgot_stands : (ids : List ℕ) (old new : Held) → ForgetsEach ids old new → (past : Past) → Stands past old → Stands past new
 forgot_stands ids old new f past m = keeps_stands past old new (record {
   resources = f.resources;
   shapes = f.shapes;
-  same = ap (λ (b : Backed). allotting.allotted b new.memory) f.backed ∙ ap (λ (x : MemoryState). allotting.allotted old.backed x) f.memory;
+  same = forgot_allotted ids old new f;
   lengths = λ n. ap (λ (x : MemoryState). length (region_of x n)) f.memory;
   types = λ n. ap (λ (x : MemoryState). type_of x n) f.memory;
 }) m

@@ -29,6 +29,7 @@ mod Remapping
 mod Sparing
 mod WritingBack
 mod CopyingParts
+mod KeptCopies
 pub mod AllottedPasses
 mod PuttingAnew
 mod MovedPlaces

@@ -19,7 +19,7 @@ use Rattle.vk_image_tiles.proofs.LevelBounds.{counts}
 use Rattle.vk_image_transfer.specs.Held.{ImageOf}
 use Rattle.vk_image_transfer.proofs.Places.{place_within}
 use Rattle.vk_backing.specs.Backed.{Backed, pool_of}
-use Rattle.vk_backing.specs.Passing.{ArePassing}
+use Rattle.vk_backing.specs.Passing.{ArePassing, CopiesAgree}
 use Rattle.vk_resources.specs.declared.applied.Applied.{Applied}
 use Rattle.vk_resources.specs.declared.applied.Applied.TheVariants as applied
 use Rattle.vk_resources.specs.declared.resources.Placed.{Placed}
@@ -114,20 +114,24 @@ shared_keeps applied.NoRoom old new i pool size asked upper shape made = same_ob
 
 -- ---- defragmentations that stay
 
-pub same_passing : (old new : Held) → new.backed ≡ old.backed → KeepsPassing old new
-same_passing old new same = record { passing = λ p h. subst (λ (b : Backed). ArePassing p b) (sym same) h; pools = λ i. ap (λ (b : Backed). pool_of b i) same }
+pub same_passing : (old new : Held) → new.memory ≡ old.memory → new.backed ≡ old.backed → KeepsPassing old new
+same_passing old new memory same = record {
+  passing = λ p h. subst (λ (b : Backed). ArePassing p b) (sym same) h;
+  agree = λ p h agree. subst (λ (m : MemoryState). CopiesAgree p new.backed m) (sym memory) (subst (λ (b : Backed). CopiesAgree p b old.memory) (sym same) agree);
+  pools = λ i. ap (λ (b : Backed). pool_of b i) same;
+}
 
 pub memory_passing : (a : Applied) (old new : Held) (i t size : ℕ) → MemoryMade a old new i t size → KeepsPassing old new
 memory_passing applied.Done old new i t size made = made.0.passing
 memory_passing (applied.Bytes bytes) old new i t size made = absurd made
-memory_passing applied.NoRoom old new i t size made = same_passing old new (ap (λ (h : Held). h.backed) made.0)
+memory_passing applied.NoRoom old new i t size made = same_passing old new (ap (λ (h : Held). h.memory) made.0) (ap (λ (h : Held). h.backed) made.0)
 
 pub resource_passing : (a : Applied) (old new : Held) (i t size asked : ℕ) (shape : Option ImageInfo) → ResourceMade a old new i t size asked shape → KeepsPassing old new
 resource_passing applied.Done old new i t size asked shape made = made.0.passing
 resource_passing (applied.Bytes bytes) old new i t size asked shape made = absurd made
-resource_passing applied.NoRoom old new i t size asked shape made = same_passing old new (ap (λ (h : Held). h.backed) made.0)
+resource_passing applied.NoRoom old new i t size asked shape made = same_passing old new (ap (λ (h : Held). h.memory) made.0) (ap (λ (h : Held). h.backed) made.0)
 
 pub put_passing : (a : Applied) (old new : Held) (i pool size : ℕ) (asked : Asked) (upper : Bool) (shape : Option ImageInfo) → SharedMade a old new i pool size asked upper shape → KeepsPassing old new
 put_passing applied.Done old new i pool size asked upper shape made = made.1.passing
 put_passing (applied.Bytes bytes) old new i pool size asked upper shape made = absurd made
-put_passing applied.NoRoom old new i pool size asked upper shape made = same_passing old new (ap (λ (h : Held). h.backed) made.0)
+put_passing applied.NoRoom old new i pool size asked upper shape made = same_passing old new (ap (λ (h : Held). h.memory) made.0) (ap (λ (h : Held). h.backed) made.0)

@@ -132,7 +132,7 @@ module _ (old new : Held) (owned : new.backed.owned ≡ old.backed.owned) (numbe
       places b = ap (λ (l : List (ℕ × Placed)). placed_in l b) resources
 
 module _ (old new : Held) (id : ℕ) (change : ℕ → ℕ) (v : Bool) (remaps : Remaps old new id change v) where
-  regions : (k : ℕ) → region_of new.memory k ≡ region_of old.memory k
+  pub regions : (k : ℕ) → region_of new.memory k ≡ region_of old.memory k
   regions k = ap (λ (m : MemoryState). region_of m k) remaps.memory ∙ region_stays (bound_of old id) v old.memory k
 
   types : (k : ℕ) → type_of new.memory k ≡ type_of old.memory k

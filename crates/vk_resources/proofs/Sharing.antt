@@ -25,7 +25,8 @@ use Rattle.vk_backing.proofs.Spots.{are_spots, spot_object}
 use Rattle.vk_resources.specs.declared.applied.Applied.{Applied}
 use Rattle.vk_resources.specs.declared.applied.Applied.TheVariants as applied
 use Rattle.vk_resources.specs.declared.resources.Placed.{Placed}
-use Rattle.vk_backing.specs.Passing.{ArePassing}
+use Rattle.vk_backing.specs.Passing.{ArePassing, CopiesAgree}
+use Rattle.vk_backing.proofs.AgreeingSteps.{shares_agree}
 use Rattle.vk_backing.proofs.PassingSteps.{shares_passing}
 use Rattle.vk_resources.specs.Allocating.{allotted, NoRoomIsExact, Allots}
 use Rattle.vk_resources.specs.Held.{Held, IsConsistent, placed, placed_in, shape_in, shape_of, object_of}
@@ -100,9 +101,9 @@ shared_ready old n id pool size asked upper shape spot found some fits absent un
 -- ---- what was made before a resource was put
 
 module _ (old n new : Held) (memory : new.memory ≡ n.memory) (backed : new.backed ≡ n.backed) where
-  pub shared_put : (id pool size : ℕ) (asked : Asked) (upper : Bool) (shape : Option ImageInfo) (spot : Spot) → allocation_of old.backed id ≡ None → FoundOr (Some spot) old n id pool asked upper → Grows old.memory n.memory → Puts n new id (record { size = size; object = spot.memory; offset = spot.offset }) shape → new.cache ≡ n.cache
+  pub shared_put : IsConsistent old → (id pool size : ℕ) (asked : Asked) (upper : Bool) (shape : Option ImageInfo) (spot : Spot) → allocation_of old.backed id ≡ None → FoundOr (Some spot) old n id pool asked upper → Grows old.memory n.memory → Puts n new id (record { size = size; object = spot.memory; offset = spot.offset }) shape → new.cache ≡ n.cache
       → PutIn old new id pool size asked upper shape spot
-  shared_put id pool size asked upper shape spot absent found grows puts cache = record {
+  shared_put consistent id pool size asked upper shape spot absent found grows puts cache = record {
     shares = subst (λ (b : Backed). Shares old.backed b old.memory new.memory id pool asked upper spot) (sym backed) (subst (λ (m : MemoryState). Shares old.backed n.backed old.memory m id pool asked upper spot) (sym memory) found.0);
     puts = record {
       here = puts.here;
@@ -115,6 +116,8 @@ module _ (old n new : Held) (memory : new.memory ≡ n.memory) (backed : new.bac
     whole = λ w. subst IsWhole (sym backed) (found.2 w);
     passing = record {
       passing = λ p h. subst (λ (b : Backed). ArePassing p b) (sym backed) (shares_passing p old.backed n.backed h (Some spot) old.memory n.memory id pool asked upper absent found.0);
+      agree = λ p h agree. subst (λ (m : MemoryState). CopiesAgree p new.backed m) (sym memory)
+          (subst (λ (b : Backed). CopiesAgree p b n.memory) (sym backed) (shares_agree p old.backed n.backed h old.memory n.memory consistent.0.backed_is agree (Some spot) id pool asked upper found.1 grows found.0));
       pools = λ i. ap (λ (b : Backed). pool_of b i) backed ∙ ap (λ (l : List (ℕ × ℕ)). number_in l i) found.0.numbers;
     };
     cache = cache ∙ found.5;

@@ -1,12 +1,16 @@
 -- What entries leave of the passes of defragmentations.
-use Rattle.std.proofs.Common.{◌≡◌, ◌∙◌, ◌⊎◌, ℕ, List, length, Some, None, ap, arith, sym, subst, inl, inr}
+use Rattle.std.proofs.Common.{◌≡◌, ◌∙◌, ◌⊎◌, ℕ, ◌+◌, List, get_or, length, Some, None, ap, arith, sym, subst, inl, inr}
 use Rattle.vk_model.specs.declared.entry.Entry.{Entry}
 use Rattle.vk_model.specs.declared.entry.Entry.TheVariants as entry
 use Rattle.vk_model.specs.declared.resource.PoolInfo.{PoolInfo}
+use Rattle.vk_model.specs.World.Bytes.{Byte}
+use Rattle.vk_memory.specs.MemoryState.{MemoryState, region_of}
 use Rattle.vma_pools.specs.State.{pool_at}
 use Rattle.vma_pools.proofs.StateLemmas.{some-is}
 use Rattle.vk_backing.specs.Backed.{Backed, number_in, pool_of, IsStill}
-use Rattle.vk_backing.specs.Passing.{Passing, ArePassing}
+use Rattle.vk_backing.specs.Passing.{Passing, ArePassing, CopiesAgree}
+use Rattle.vma_defrag.specs.Bytes.{byte_in}
+use Rattle.vk_backing.proofs.AgreeingSteps.{drops_agree, makes_agree, maps_agree, releases_agree}
 use Rattle.vk_backing.proofs.Passing.{still_id}
 use Rattle.vk_backing.proofs.PassingSteps.{releases_passing, makes_passing, drops_passing, maps_passing}
 use Rattle.std.specs.Prelude.{Contains, Bool}
@@ -14,7 +18,9 @@ use Rattle.std.proofs.lemmas.Bool.{cases_eq}
 use Rattle.std.proofs.lemmas.List.{get_or_past}
 use Rattle.vk_resources.specs.Held.{Held, IsConsistent}
 use Rattle.vk_resources.specs.Passes.{HasSpared, KeepsPassing, KeepsPools, KeepsSpared, SparesPasses}
+use Rattle.vk_resources.specs.PassSteps.{KeepsSparedCopies}
 use Rattle.vk_resources.specs.Inner.Steps.{Ends, PoolMade, PoolDropped, Remaps}
+use Rattle.vk_resources.proofs.Remapping.{regions}
 
 -- where they stay in any case
 pub all_spared : (y : Entry) (old new : Held) → KeepsPassing old new → KeepsSpared y old new
@@ -47,6 +53,9 @@ module _ (s : Held) (consistent : IsConsistent s) (y : Entry) (id : ℕ) (away :
     passing = λ p h spares. releases_passing p s.backed new.backed h s.memory consistent.0.backed_is id (away p spares) new.memory ends.gone ends.releases;
     pools = same_pools y s new ends.releases.numbers;
   }
+
+  pub ends_copies : (new : Held) (test : Byte → Bool) → Ends s new id → KeepsSparedCopies y s new test
+  ends_copies new test ends p h spares bytes agree = releases_agree p s.backed new.backed h s.memory new.memory consistent.0.backed_is ends.backed id (away p spares) ends.gone ends.releases agree
 
 pub free_away : (s : Held) (y : Entry) (m : ℕ) → y ≡ entry.Free m → (p : Passing) → SparesPasses p s.backed y → Contains p.moving m → ⊥
 free_away s y m is p spares = subst (λ (x : Entry). SparesPasses p s.backed x) is spares
@@ -83,3 +92,27 @@ maps_spared y old new id change v remaps = record {
   passing = λ p h spares. maps_passing p old.backed new.backed h id change remaps.maps;
   pools = same_pools y old new remaps.maps.numbers;
 }
+
+-- ---- parts that were copied
+
+pub all_copies : (y : Entry) (old new : Held) (test : Byte → Bool) → KeepsPassing old new → KeepsSparedCopies y old new test
+all_copies y old new test keeps p h spares bytes agree = keeps.agree p h agree
+
+pub pool_copies : (y : Entry) (old new : Held) (test : Byte → Bool) (id : ℕ) (info : PoolInfo) → PoolMade old new id info → KeepsSparedCopies y old new test
+pool_copies y old new test id info made p h spares bytes agree = subst (λ (m : MemoryState). CopiesAgree p new.backed m) (sym made.memory) (makes_agree p old.backed new.backed h old.memory agree id info made.makes)
+
+pub dropped_copies : (y : Entry) (old new : Held) (test : Byte → Bool) (id : ℕ) → PoolDropped old new id → KeepsSparedCopies y old new test
+dropped_copies y old new test id dropped p h spares bytes agree = subst (λ (m : MemoryState). CopiesAgree p new.backed m) (sym dropped.memory) (drops_agree p old.backed new.backed h old.memory agree id dropped.drops)
+
+-- where memory objects have the same bytes
+same_copies : (p : Passing) (b : Backed) (m n : MemoryState) → ((k : ℕ) → region_of n k ≡ region_of m k) → CopiesAgree p b m → CopiesAgree p b n
+same_copies p b m n same agree i at from to lt below between = elim (agree i at from to lt below between) [
+  | inl left ↦ inl left
+  | inr copied ↦ inr (byte to.memory (to.offset + at) ∙ copied ∙ sym (byte from.memory (from.offset + at)))
+]
+  where
+    byte : (x k : ℕ) → byte_in n x k ≡ byte_in m x k
+    byte x k = ap (λ (r : List ℕ). get_or r k 0) (same x)
+
+pub maps_copies : (y : Entry) (old new : Held) (test : Byte → Bool) (id : ℕ) (change : ℕ → ℕ) (v : Bool) → Remaps old new id change v → KeepsSparedCopies y old new test
+maps_copies y old new test id change v remaps p h spares bytes agree = same_copies p new.backed old.memory new.memory (regions old new id change v remaps) (maps_agree p old.backed new.backed h old.memory agree id change remaps.maps)

@@ -15,8 +15,8 @@ use Rattle.vk_model.specs.World.Bytes.{Byte, in_buffer, in_image, resource_at}
 use Rattle.vk_model.specs.World.Effect.{in_atoms}
 use Rattle.std.proofs.lemmas.List.Folds.{list_any-append}
 use Rattle.vk_map_cache.specs.Holdings.{held_at, only_where}
-use Rattle.vk_backing.specs.Allotted.{Allotted}
 use Rattle.vk_resources.specs.declared.resources.Placed.{Placed}
+use Rattle.vk_resources.specs.Allocating.{allotted}
 use Rattle.vk_resources.specs.Held.{Held, IsConsistent, HasCell, placed, placed_in, shape_of, shape_in, flat, host_at, byte_at, holding_in, is_cached_in, is_dirty}
 use Rattle.vk_resources.specs.Matches.{Stands}
 use Rattle.vk_resources.specs.PassSteps.{AreClean, WritesBack, is_of_any}
@@ -111,15 +111,15 @@ module _ (s n : Held) (consistent : IsConsistent s) (id : ℕ) where
 pub record WrittenSoFar (ids : List ℕ) (k : ℕ) (old now : Held) : Type 0 where
   pub resources : now.resources ≡ old.resources
   pub shapes : now.shapes ≡ old.shapes
-  pub backed : now.backed ≡ old.backed
+  pub same : allotted now ≡ allotted old
   pub stands : (past : Past) → Stands past old → Stands past now
   pub written : WritesBack (take k ids) old now
 
 pub written_first : (ids : List ℕ) (s : Held) → WrittenSoFar ids 0 s s
-written_first ids s = record { resources = refl; shapes = refl; backed = refl; stands = λ past m. m; written = λ c cell there has. has }
+written_first ids s = record { resources = refl; shapes = refl; same = refl; stands = λ past m. m; written = λ c cell there has. has }
 
 pub written_more : (ids : List ℕ) (k : ℕ) (old mid new : Held) → k < length ids → WrittenSoFar ids k old mid → KeepsPlaces mid new → WritesBack (get_or ids k 0 ∷ []) mid new → WrittenSoFar ids (k + 1) old new
-written_more ids k old mid new lt so keeps more = record { resources = keeps.resources ∙ so.resources; shapes = keeps.shapes ∙ so.shapes; backed = ap (λ (a : Allotted). a.backed) keeps.same ∙ so.backed; stands = λ past m. keeps_stands past mid new keeps (so.stands past m); written = written }
+written_more ids k old mid new lt so keeps more = record { resources = keeps.resources ∙ so.resources; shapes = keeps.shapes ∙ so.shapes; same = keeps.same ∙ so.same; stands = λ past m. keeps_stands past mid new keeps (so.stands past m); written = written }
   where
     id : ℕ
     id = get_or ids k 0

@@ -1,11 +1,14 @@
 -- What passes of defragmentations do to what is held.
 use Rattle.std.specs.Prelude.{◌≡◌, ℕ, List, Contains, Bool, true, false, if◌then◌else◌, None, IsTrue, option_map}
+use Rattle.vk_model.specs.declared.entry.Entry.{Entry}
 use Rattle.vk_model.specs.Basics.{among, holds}
 use Rattle.vk_model.specs.Trace.Point.{Past}
 use Rattle.vk_model.specs.Trace.Objects.{live}
 use Rattle.vk_model.specs.Rules.Ids.{is_resource}
 use Rattle.vk_model.specs.Run.Caches.{Cell, dropped, written_back}
 use Rattle.vk_model.specs.World.Bytes.{Byte, resource_at}
+use Rattle.vk_backing.specs.Passing.{Passing, ArePassing, CopiesAgree}
+use Rattle.vk_resources.specs.Passes.{SparesPasses}
 use Rattle.vk_resources.specs.Held.{Held, IsThere, HasCell, placed, shape_of, byte_at, host_at, is_dirty}
 
 -- Whether a byte is of one of these resources.
@@ -46,3 +49,17 @@ pub record KeepsCells (old new : Held) : Type 0 where
   pub backed : new.backed ≡ old.backed
   pub cache : new.cache ≡ old.cache
   pub bytes : (c : Byte) → byte_at new c ≡ byte_at old c
+
+-- ---- parts that were copied
+
+-- A test passes for no byte of these resources.
+abbrev pub SparesBytes : List ℕ → (Byte → Bool) → Type 0
+SparesBytes ids test = (c : Byte) → IsTrue (test c) → is_of_any ids c ≡ false
+
+-- Where a test passes for no byte of what moves, the parts of the open pass that were copied stay so: their bytes are the same at both places (VMA, "Defragmentation").
+abbrev pub KeepsCopies : Held → Held → (Byte → Bool) → Type 0
+KeepsCopies old new test = (p : Passing) → ArePassing p old.backed → SparesBytes p.moving test → CopiesAgree p old.backed old.memory → CopiesAgree p new.backed new.memory
+
+-- The same over an entry that spares what moves and what is defragmented (VMA, "Defragmentation").
+abbrev pub KeepsSparedCopies : Entry → Held → Held → (Byte → Bool) → Type 0
+KeepsSparedCopies x old new test = (p : Passing) → ArePassing p old.backed → SparesPasses p old.backed x → SparesBytes p.moving test → CopiesAgree p old.backed old.memory → CopiesAgree p new.backed new.memory

@@ -5,12 +5,13 @@ use Rattle.vk_model.specs.declared.entry.Entry.TheVariants as entry
 use Rattle.vma_pools.specs.State.{pool_at}
 use Rattle.vma_defrag.specs.State.{DefragState}
 use Rattle.vk_backing.specs.Backed.{Backed, pool_of}
-use Rattle.vk_backing.specs.Passing.{Passing, defrag_in, ArePassing}
+use Rattle.vk_backing.specs.Passing.{Passing, defrag_in, ArePassing, CopiesAgree}
 use Rattle.vk_resources.specs.Held.{Held}
 
--- Defragmentations stay as they always are, and ids have the pools that they had (VMA, "Defragmentation" and "Custom memory pools").
+-- Defragmentations stay as they always are, the parts of the open pass that were copied stay so, and ids have the pools that they had (VMA, "Defragmentation" and "Custom memory pools").
 pub record KeepsPassing (old new : Held) : Type 0 where
   pub passing : (p : Passing) → ArePassing p old.backed → ArePassing p new.backed
+  pub agree : (p : Passing) → ArePassing p old.backed → CopiesAgree p old.backed old.memory → CopiesAgree p new.backed new.memory
   pub pools : (i : ℕ) → pool_of new.backed i ≡ pool_of old.backed i
 
 -- Ids have the pools that they had, but for one that an entry makes, which has a new number, and one that it ends (VMA, "Custom memory pools").

@@ -15,7 +15,7 @@ impl Resources {
     ghost use Rattle.vk_resources.specs.Held.{flat, seen_at};
     ghost use Rattle.vk_resources.specs.Rest.{KeepsRest, is_changed_by};
     ghost use Rattle.vk_resources.specs.Matches.{Stands};
-    ghost use Rattle.vk_resources.specs.Allocating.{NoRoomIsExact, Allots};
+    ghost use Rattle.vk_resources.specs.Allocating.{allotted, NoRoomIsExact, Allots};
     ghost use Rattle.vk_resources.specs.Fits.{FitsEntry};
     ghost use Rattle.vk_resources.specs.Counted.{Counts};
     ghost use Rattle.vk_resources.specs.Done.{DoneBy, EntryReady};
@@ -64,7 +64,7 @@ impl Resources {
         ensures rooms { IfOk result (λ a. (past : Past) → FitsEntry past entry.now → NoRoomIsExact a self.old entry.now) }
         ensures allots { IfOk result (λ a. (past : Past) → Stands past self.old → FitsEntry past entry.now → Allots a entry.now self.old self.new) }
         ensures counts { OnOk result (Counts entry.now self.old self.new) }
-        ensures backed { OnOk result (self.new.backed ≡ self.old.backed) }
+        ensures allotted { OnOk result (allotted self.new ≡ allotted self.old) }
         ensures rest { OnOk result ((past : Past) → Stands past self.old → FitsEntry past entry.now → KeepsRest self.old self.new (is_changed_by self.old past entry.now)) }
     {
         match entry {
@@ -96,7 +96,7 @@ impl Resources {
         ensures rooms { IfOk result (λ a. (past : Past) → FitsEntry past entry.now → NoRoomIsExact a self.old entry.now) }
         ensures allots { IfOk result (λ a. (past : Past) → Stands past self.old → FitsEntry past entry.now → Allots a entry.now self.old self.new) }
         ensures counts { OnOk result (Counts entry.now self.old self.new) }
-        ensures backed { OnOk result (self.new.backed ≡ self.old.backed) }
+        ensures allotted { OnOk result (allotted self.new ≡ allotted self.old) }
         ensures rest { OnOk result ((past : Past) → Stands past self.old → FitsEntry past entry.now → KeepsRest self.old self.new (is_changed_by self.old past entry.now)) }
     {
         match entry {

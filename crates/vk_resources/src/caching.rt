@@ -54,6 +54,7 @@ impl Resources {
     ghost use Rattle.vk_resources.specs.Rest.{KeepsRest, is_given_back};
     ghost use Rattle.vk_resources.specs.Matches.{Stands};
     ghost use Rattle.vk_resources.specs.Allocating.{allotted};
+    ghost use Rattle.vk_resources.specs.PassSteps.{KeepsCopies};
     ghost use Rattle.vk_resources.specs.Fits.{FitsEntry};
     ghost use Rattle.vk_resources.specs.Done.{AtomReady, TurnsOver};
     ghost use Rattle.vk_resources.specs.Inner.Steps.{MayReach, MayReachTo, HasAtom, HasChanged, Forgets, KeepsPlaces, cached_at};
@@ -160,11 +161,13 @@ impl Resources {
         requires { AtomReady self.old entry.now atom }
         ensures turned { OnOk result (TurnsOver entry.now atom self.old self.new) }
         ensures rest { OnOk result (KeepsRest self.old self.new (is_given_back self.old entry.now atom)) }
+        ensures agree { OnOk result (KeepsCopies self.old self.new (is_given_back self.old entry.now atom)) }
         ensures matches { (past : Past) → Stands past self.old → Stands past self.new }
         ensures placed { self.new.resources ≡ self.old.resources }
         ensures shapes { self.new.shapes ≡ self.old.shapes }
         ensures allotted { allotted self.new ≡ allotted self.old }
     {
+        let _memories = &self.memories;
         match accessed(entry) {
             Some(buffer) => self.turn_over_atom(buffer, atom),
             None => Ok(()),

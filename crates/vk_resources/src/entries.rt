@@ -24,6 +24,7 @@ impl Resources {
     ghost use Rattle.vk_resources.specs.Fits.{FitsEntry};
     ghost use Rattle.vk_resources.specs.Counted.{Counts};
     ghost use Rattle.vk_resources.specs.Passes.{HasSpared, KeepsPassing, KeepsSpared};
+    ghost use Rattle.vk_resources.specs.PassSteps.{KeepsSparedCopies};
     ghost use Rattle.vk_resources.specs.Done.{DoneBy, EntryReady};
     ghost use Rattle.vk_resources.specs.Inner.Steps.{KeepsObjects, IsMaking, MadeOr, ResourceMade, MemoryMade, ShapeReady, PutReady, Puts, FoundOr, SharedMade, BindReady, Binds, IsEmpty, Ends};
     ghost use Rattle.vk_backing.specs.Backed.{pool_by, allocation_of, IsStill};
@@ -299,7 +300,9 @@ impl Resources {
         ensures passing { OnOk result (KeepsSpared entry.now self.old self.new) }
         // Of all memory objects that stay only the bytes that memory gets change.
         ensures rest { OnOk result ((past : Past) → Stands past self.old → FitsEntry past entry.now → KeepsRest self.old self.new (is_changed_by self.old past entry.now)) }
+        ensures agree { OnOk result ((past : Past) → Stands past self.old → FitsEntry past entry.now → KeepsSparedCopies entry.now self.old self.new (is_changed_by self.old past entry.now)) }
     {
+        let _memories = &self.memories;
         match entry {
             Entry::Memory { .. } | Entry::Buffer { .. } | Entry::Image { .. } => self.make(entry),
             Entry::Pool { id, info } => {

@@ -1,10 +1,12 @@
-ghost use Rattle.std.specs.Prelude.{◌≡◌, ◌∷◌, [], ℕ, Contains, IfOk, IfSome, IsSome, None, OnOk};
+ghost use Rattle.std.specs.Prelude.{◌≡◌, ◌∷◌, [], ℕ, Contains, IfOk, IfSome, IsSome, IsSomeAnd, None, OnOk, Some};
 ghost use Rattle.vk_model.specs.Trace.Point.{Past};
 ghost use Rattle.vk_model.specs.Trace.Order.{host};
 ghost use Rattle.vk_model.specs.declared.entry.Entry.TheVariants as entry;
+ghost use Rattle.vk_model.specs.declared.resource.PoolKind.TheVariants as algorithm;
 ghost use Rattle.vk_memory.specs.MemoryState.{MemoryState};
-ghost use Rattle.vk_backing.specs.Backed.{IsBacked};
-ghost use Rattle.vk_backing.specs.PassSteps.{AreDestroyed, Closes, Copies, Opens};
+ghost use Rattle.vk_backing.specs.Backed.{IsBacked, pool_by};
+ghost use Rattle.vk_backing.specs.PassAllots.{DefragAllots, EndAllots, PassAllots, StaysAllotted, UndefragAllots};
+ghost use Rattle.vk_backing.specs.PassSteps.{AreDestroyed, Begins, Closes, Copies, Opens};
 ghost use Rattle.vk_backing.specs.Passing.{ArePassing, CopiesAgree, defrag_in, parts_left};
 
 use crate::resources::{Placed, Resources};
@@ -17,6 +19,7 @@ use vk_model::Length;
 impl Resources {
     ghost use Rattle.vk_resources.specs.Matches.{Stands};
     ghost use Rattle.vk_resources.specs.PassSteps.{AreClean, AreLive, Drops, EndsResources, KeepsCells, WritesBack};
+    ghost use Rattle.vk_resources.specs.Allocating.{allotted};
     ghost use Rattle.vk_resources.specs.Held.{IsConsistent};
     ghost use Rattle.vk_resources.specs.Inner.PassEnds.{ForgetsEach, Settles};
     ghost use Rattle.vk_resources.specs.Inner.Steps.{KeepsPlaces, Reserves};
@@ -36,13 +39,48 @@ impl Resources {
     fn write_all_back(&mut self, passes: &Passes)
         ensures resources { self.new.resources ≡ self.old.resources }
         ensures shapes { self.new.shapes ≡ self.old.shapes }
-        ensures backed { self.new.backed ≡ self.old.backed }
+        ensures allotted { allotted self.new ≡ allotted self.old }
         ensures written { WritesBack passes.now.moving self.old self.new }
         ensures stands { (past : Past) → Stands past self.old → Stands past self.new }
     {
         for index in 0..passes.moves() {
             self.write_back(passes.nth_id(index));
         }
+    }
+
+    /// Begins a defragmentation of the pool of an id, for an id, with limits of bytes and moves, 0 for
+    /// none. The only error is want of memory.
+    pub fn begin_defrag(
+        &self,
+        passes: &mut Passes,
+        id: u32,
+        pool: u32,
+        max_bytes: u64,
+        max_moves: u32,
+    ) -> Result<(), AllocError>
+        requires absent { defrag_in passes.old id ≡ None }
+        requires general { IsSomeAnd (pool_by self.now.backed pool) (λ k. k.pool.info.kind ≡ algorithm.Tlsf) }
+        requires passing { ArePassing passes.old self.now.backed }
+        ensures begins { OnOk result (Begins passes.old passes.new self.now.backed id pool max_bytes max_moves) }
+        ensures passing { OnOk result (ArePassing passes.new self.now.backed) }
+        ensures allots { OnOk result (DefragAllots (allotted self.now) passes.old passes.new id pool max_bytes max_moves) }
+    {
+        passes.begin(&self.backing, id, pool, max_bytes, max_moves)
+    }
+
+    /// Ends a defragmentation that has no open pass.
+    pub fn end_defrag(&self, passes: &mut Passes, id: u32)
+        requires there { IsSome (defrag_in passes.old id) }
+        requires closed { passes.old.opened ≡ Some id → ⊥ }
+        requires passing { ArePassing passes.old self.now.backed }
+        ensures gone { defrag_in passes.new id ≡ None }
+        ensures others { (i : ℕ) → (i ≡ id → ⊥) → defrag_in passes.new i ≡ defrag_in passes.old i }
+        ensures opened { passes.new.opened ≡ passes.old.opened }
+        ensures moving { passes.new.moving ≡ passes.old.moving }
+        ensures passing { ArePassing passes.new self.now.backed }
+        ensures allots { UndefragAllots (allotted self.now) passes.old passes.new id }
+    {
+        passes.end(&self.backing, id);
     }
 
     /// Reserves the places of the moves of a pass that begins.
@@ -53,6 +91,7 @@ impl Resources {
         requires stands { (past : Past) × Stands past self.old }
         ensures opens { OnOk result (Opens passes.old passes.new self.old.backed self.new.backed defrag) }
         ensures passing { OnOk result (ArePassing passes.new self.new.backed) }
+        ensures allots { OnOk result (PassAllots (allotted self.old) passes.old (allotted self.new) passes.new defrag) }
         ensures reserves { OnOk result (Reserves self.old self.new) }
     {
         passes.open(&mut self.backing, &mut self.memories, defrag)
@@ -67,7 +106,9 @@ impl Resources {
         requires passing { ArePassing passes.old self.old.backed }
         requires stands { (past : Past) × Stands past self.old }
         ensures opens { OnOk result (Opens passes.old passes.new self.old.backed self.new.backed defrag) }
+        ensures agree { OnOk result (CopiesAgree passes.new self.new.backed self.new.memory) }
         ensures passing { OnOk result (ArePassing passes.new self.new.backed) }
+        ensures allots { OnOk result (PassAllots (allotted self.old) passes.old (allotted self.new) passes.new defrag) }
         ensures resources { OnOk result (self.new.resources ≡ self.old.resources) }
         ensures shapes { OnOk result (self.new.shapes ≡ self.old.shapes) }
         ensures written { OnOk result (WritesBack passes.new.moving self.old self.new) }
@@ -87,6 +128,7 @@ impl Resources {
         ensures copies { Copies passes.old passes.new self.old.backed part self.old.memory self.new.memory }
         ensures agree { CopiesAgree passes.old self.old.backed self.old.memory → CopiesAgree passes.new self.new.backed self.new.memory }
         ensures passing { ArePassing passes.new self.new.backed }
+        ensures allots { StaysAllotted (allotted self.old) passes.old (allotted self.new) passes.new }
         ensures keeps { KeepsCells self.old self.new }
         ensures stands { (past : Past) → Stands past self.old → Stands past self.new }
     {
@@ -121,6 +163,7 @@ impl Resources {
         requires stands { (past : Past) × Stands past self.old }
         ensures settles { OnOk result (IfSome passes.old.opened (λ id. Settles passes.old passes.new self.old self.new moving.now ignored.now destroyed.now id)) }
         ensures passing { OnOk result (ArePassing passes.new self.new.backed) }
+        ensures allots { OnOk result (IfSome passes.old.opened (λ id. EndAllots (allotted self.old) passes.old (allotted self.new) passes.new id ignored.now destroyed.now)) }
         ensures consistent { IsConsistent self.old }
     {
         passes.close(&mut self.backing, &mut self.memories, ignored, destroyed)?;
@@ -147,6 +190,7 @@ impl Resources {
         requires stands { (past : Past) × Stands past self.old }
         ensures closes { OnOk result (IfSome passes.old.opened (λ id. Closes passes.old passes.new self.old.backed self.new.backed self.old.memory self.new.memory id ignored.now destroyed.now)) }
         ensures passing { OnOk result (ArePassing passes.new self.new.backed) }
+        ensures allots { OnOk result (IfSome passes.old.opened (λ id. EndAllots (allotted self.old) passes.old (allotted self.new) passes.new id ignored.now destroyed.now)) }
         ensures cells { OnOk result (Drops passes.old.moving self.old self.new) }
         ensures resources { OnOk result (EndsResources self.old self.new passes.old.moving destroyed.now) }
         ensures stands { OnOk result ((e d : ℕ) (past : Past) → Stands past self.old → AreLive past destroyed.now → Stands (host e (entry.EndPass d ignored.now destroyed.now) ∷ past) self.new) }

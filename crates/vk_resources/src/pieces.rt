@@ -31,6 +31,7 @@ impl Resources {
     ghost use Rattle.vk_resources.specs.Rest.{KeepsRest, is_written};
     ghost use Rattle.vk_resources.specs.Matches.{Stands};
     ghost use Rattle.vk_resources.specs.Allocating.{allotted};
+    ghost use Rattle.vk_resources.specs.PassSteps.{KeepsCopies};
     ghost use Rattle.vk_resources.specs.Fits.{FitsCommand, NamesLive};
     ghost use Rattle.vk_resources.specs.Done.{CommandReady, PieceReady};
     ghost use Rattle.vk_resources.specs.Inner.Steps.{IsPlaced, HasRun, CopyReady};
@@ -78,12 +79,14 @@ impl Resources {
         ensures ran { (past : Past) (ms : List ByteWrite) → Stands past self.old → FitsCommand past work.now → slice_get (pieces past work.now) number ≡ Some ms → HaveRun ms (byte_at self.old) (byte_at self.new) }
         // Of all memory only the bytes that are written change, also where no resource lies.
         ensures rest { (past : Past) (ms : List ByteWrite) → Stands past self.old → FitsCommand past work.now → slice_get (pieces past work.now) number ≡ Some ms → KeepsRest self.old self.new (is_written ms) }
+        ensures agree { (past : Past) (ms : List ByteWrite) → Stands past self.old → FitsCommand past work.now → slice_get (pieces past work.now) number ≡ Some ms → KeepsCopies self.old self.new (is_written ms) }
         ensures matches { (past : Past) → Stands past self.old → Stands past self.new }
         ensures placed { self.new.resources ≡ self.old.resources }
         ensures shapes { self.new.shapes ≡ self.old.shapes }
         ensures cache { self.new.cache ≡ self.old.cache }
         ensures allotted { allotted self.new ≡ allotted self.old }
     {
+        let _memories = &self.memories;
         match work.command {
             Cmd::Fill {
                 buffer,

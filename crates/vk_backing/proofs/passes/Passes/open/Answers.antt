@@ -3,12 +3,12 @@ use Rattle.vk_memory.specs.MemoryState.{MemoryState}
 use Rattle.vma_pools.specs.State.{Backs}
 use Rattle.vk_backing.specs.Allotted.{allotted}
 use Rattle.vk_backing.specs.Backed.{Backed, IsBacked, IsWhole}
-use Rattle.vk_backing.specs.Passing.{Passing, ArePassing, CopiesAgree}
+use Rattle.vk_backing.specs.Passing.{Passing, ArePassing}
 use Rattle.vk_backing.specs.PassSteps.{Opens}
 use Rattle.vk_backing.specs.PassAllots.{PassAllots}
 use Rattle.vk_backing.proofs.OpenAllots.{pass_allotted}
 use Rattle.vk_backing.proofs.OpenPass.{lent}
-use Rattle.vk_backing.proofs.Opening.{general, movers_named, none_current, opened_agree, opened_is, opened_passing, refused_backed, refused_whole, reserved_backed, reserved_whole, unplanned}
+use Rattle.vk_backing.proofs.Opening.{general, movers_named, none_current, opened_is, opened_passing, opens_agree, refused_backed, refused_whole, reserved_backed, reserved_whole, unplanned}
 use Rattle.vk_backing.proofs.passes.Passes.open.Goals as goal
 
 pub pass-passed-requires-clause-closed : goal.pass-passed-requires-clause-closed
@@ -173,19 +173,10 @@ returns-clause-opens c =
 
 pub returns-clause-agree : goal.returns-clause-agree
 returns-clause-agree c =
-    let f = c.self.inside in let g = c.backing.inside in let m = c.args.memories.now in let id = c.args.id in let d = c.in-Some.defrag.now in
-    let old : Passing = record { defrags = f.defrags.entries; opened = f.opened; moving = f.moving.items } in
-    let b : Backed = record { owned = g.owned.entries; pools = g.pools; numbers = g.numbers.entries; allocations = g.allocations.entries } in
-    let hp : ArePassing old b = subst (λ (x : Backed). ArePassing old x) (sym c.backing.view_is) (subst (λ (p : Passing). ArePassing p c.args.backing.now) (sym c.self.view_is) c.requires.passing) in
-    let h : IsBacked b m = subst (λ (x : Backed). IsBacked x m) (sym c.backing.view_is) c.requires.backed in
-    let whole : IsWhole b = subst IsWhole (sym c.backing.view_is) c.requires.whole in
-    let closed : old.opened ≡ None = ap (λ (p : Passing). p.opened) c.self.view_is ∙ c.requires.closed in
-    let t = c.pass-passed.new.pools in let e = c.pass-passed.new.self in
-    let backs : Backs t m = subst (λ (n : MemoryState). Backs t n) c.pass-passed.ensures.memories c.pass-passed.ensures.backs in
-    let l = c.get_mut.follows.lender e in
-    let new : Passing = record { defrags = l.entries; opened = Some id; moving = c.in_ok-self-inside.field-0.items } in
-    let writes = lent f.defrags l id e d (c.get_mut.follows.holds e) (sym c.in-Some.ensures.value) in
-    subst (λ (n : MemoryState). CopiesAgree new (record b { pools = t }) n) (sym c.pass-passed.ensures.memories) (opened_agree old b m hp h whole closed id d (sym c.in-Some.ensures.value) e t c.in_ok-passed.ensures.begun c.in_ok-passed.ensures.planned c.are_pools.ensures backs (c.pass-passed.ensures.matched h.matched) new refl writes.0 writes.1 m)
+    let g = c.backing.inside in
+    let after : Backed = record { owned = g.owned.entries; pools = c.pass-passed.new.pools; numbers = g.numbers.entries; allocations = g.allocations.entries } in
+    let new : Passing = record { defrags = (c.get_mut.follows.lender c.pass-passed.new.self).entries; opened = Some c.args.id; moving = c.in_ok-self-inside.field-0.items } in
+    opens_agree c.args.self.now new c.args.backing.now after c.args.id (returns-clause-opens c) c.pass-passed.new.memories
 
 pub returns-clause-allots : goal.returns-clause-allots
 returns-clause-allots c =

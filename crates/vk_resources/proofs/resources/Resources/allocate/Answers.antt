@@ -14,4 +14,4 @@ returns-clause-made c =
     let old : Held = record { memory = c.self.inside.memories; backed = c.self.inside.backing; resources = c.self.inside.resources.entries; shapes = c.self.inside.shapes.entries; cache = c.self.inside.cache } in
     let new : Held = backed_with old c.own.new.self c.own.new.memories in
     subst (λ (s : Held). IfOk c.own.result (λ o. MadeOr o s new c.args.id c.args.memory_type c.args.size)) c.self.view_is
-    (made old c.own.new.self c.own.new.memories c.own.ensures.backed c.args.id c.args.memory_type c.args.size c.own.result c.own.ensures.owns c.own.ensures.whole (own_stays old c.own.new.self c.own.new.memories c.own.ensures.backed c.args.id c.args.memory_type c.args.size c.own.result c.own.ensures.owns c.own.ensures.alone) c.own.ensures.allots)
+    (made old c.own.new.self c.own.new.memories c.own.ensures.backed c.args.id c.args.memory_type c.args.size c.own.result c.own.ensures.owns c.own.ensures.whole (own_stays old c.own.new.self c.own.new.memories c.own.ensures.backed c.self.invariant.0.backed_is c.own.ensures.grows c.args.id c.args.memory_type c.args.size c.own.result c.own.ensures.owns c.own.ensures.alone) c.own.ensures.allots)

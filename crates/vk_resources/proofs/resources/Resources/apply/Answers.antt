@@ -2,9 +2,11 @@ use Rattle.std.proofs.Common.{◌-◌, true, false, refl, sym, subst}
 use Rattle.vk_backing.specs.Steps.{one_more}
 use Rattle.vk_resources.proofs.Resting.{rest_done}
 use Rattle.vk_resources.proofs.PoolEntries.{pool_absent, pool_done}
-use Rattle.vk_resources.proofs.Sparing.{unchanged_spared, spared_still, ends_spared, free_away, destroy_away, pool_spared, dropped_spared, maps_spared}
+use Rattle.vk_resources.proofs.Sparing.{unchanged_spared, spared_still, ends_spared, free_away, destroy_away, pool_spared, dropped_spared, maps_spared, ends_copies, pool_copies, dropped_copies, maps_copies}
 use Rattle.vk_resources.proofs.PoolEnds.{drop_unused, drop_done}
+use Rattle.vk_resources.specs.Held.{IsConsistent}
 use Rattle.vk_resources.specs.Rest.{is_changed_by}
+use Rattle.vk_resources.proofs.KeptCopies.{access_copies}
 use Rattle.vk_resources.proofs.Keeping.{objects_rest, same_objects, ends_keep}
 use Rattle.vk_resources.proofs.Ending.{free_empty, free_done, destroy_empty, destroy_done}
 use Rattle.vk_resources.proofs.Allotting.{free_allots, destroy_allots, rest_rooms, rest_allots, is_rest}
@@ -63,6 +65,30 @@ returns-in_ok-make_pool-in-Pool-clause-passing c =
 pub returns-in-DropPool-clause-passing : goal.returns-in-DropPool-clause-passing
 returns-in-DropPool-clause-passing c = dropped_spared c.args.entry.now c.args.self.now c.drop_pool.new.self c.in-DropPool.pool c.in-DropPool.is c.drop_pool.ensures.dropped
 
+-- ---- parts that were copied
+
+pub returns-in-Free-clause-agree : goal.returns-in-Free-clause-agree
+returns-in-Free-clause-agree c = λ past m fit.
+    ends_copies c.args.self.now c.end.ensures.consistent c.args.entry.now c.in-Free.memory (free_away c.args.self.now c.args.entry.now c.in-Free.memory c.in-Free.is) c.end.new.self (is_changed_by c.args.self.now past c.args.entry.now) c.end.ensures.ended
+
+pub returns-in-Destroy-clause-agree : goal.returns-in-Destroy-clause-agree
+returns-in-Destroy-clause-agree c = λ past m fit.
+    ends_copies c.args.self.now c.end-in-Destroy.ensures.consistent c.args.entry.now c.in-Destroy.resource (destroy_away c.args.self.now c.args.entry.now c.in-Destroy.resource c.in-Destroy.is) c.end-in-Destroy.new.self (is_changed_by c.args.self.now past c.args.entry.now) c.end-in-Destroy.ensures.ended
+
+pub returns-in_ok-make_pool-in-Pool-clause-agree : goal.returns-in_ok-make_pool-in-Pool-clause-agree
+returns-in_ok-make_pool-in-Pool-clause-agree c = λ past m fit.
+    pool_copies c.args.entry.now c.args.self.now c.make_pool.new.self (is_changed_by c.args.self.now past c.args.entry.now) c.in-Pool.id c.in-Pool.info c.in_ok-make_pool-in-Pool.ensures.made
+
+pub returns-in-DropPool-clause-agree : goal.returns-in-DropPool-clause-agree
+returns-in-DropPool-clause-agree c = λ past m fit. dropped_copies c.args.entry.now c.args.self.now c.drop_pool.new.self (is_changed_by c.args.self.now past c.args.entry.now) c.in-DropPool.pool c.drop_pool.ensures.dropped
+
+pub returns-in-Write-clause-agree : goal.returns-in-Write-clause-agree
+returns-in-Write-clause-agree c = access_copies c.access.result c.args.entry.now c.args.self.now c.access.new.self (subst IsConsistent c.self.view_is c.self.invariant) c.access.ensures.rest c.access.ensures.allotted
+
+pub returns-in-Flush-clause-agree : goal.returns-in-Flush-clause-agree
+returns-in-Flush-clause-agree c =
+    access_copies c.flush_or_invalidate.result c.args.entry.now c.args.self.now c.flush_or_invalidate.new.self (subst IsConsistent c.self.view_is c.self.invariant) c.flush_or_invalidate.ensures.rest c.flush_or_invalidate.ensures.allotted
+
 -- ---- pools
 
 pub make_pool-requires-clause-absent : goal.make_pool-requires-clause-absent
@@ -97,6 +123,7 @@ returns-in-Map c =
       counts = subst (λ (z : Entry). Counts z s c.map.new.self) (sym c.in-Map.is) (m.maps, m.memory);
       passing = maps_spared y s c.map.new.self b one_more true m;
       rest = λ past matches fit. remapped_rest s c.map.new.self b one_more true m (is_changed_by s past y);
+      agree = λ past matches fit. maps_copies y s c.map.new.self (is_changed_by s past y) b one_more true m;
     }
 
 pub returns-in-Unmap : goal.returns-in-Unmap
@@ -109,6 +136,7 @@ returns-in-Unmap c =
       counts = subst (λ (z : Entry). Counts z s c.unmap.new.self) (sym c.in-Unmap.is) (m.maps, m.memory);
       passing = maps_spared y s c.unmap.new.self b (λ n. n - 1) false m;
       rest = λ past matches fit. remapped_rest s c.unmap.new.self b (λ n. n - 1) false m (is_changed_by s past y);
+      agree = λ past matches fit. maps_copies y s c.unmap.new.self (is_changed_by s past y) b (λ n. n - 1) false m;
     }
 
 -- ---- the others
@@ -123,4 +151,5 @@ returns-in_default c =
       counts = uncounted c.args.entry.now c.args.self.now c.args.self.now c.in_default.not-Map c.in_default.not-Unmap;
       passing = unchanged_spared c.args.entry.now c.args.self.now c.args.self.now refl;
       rest = λ past m fit. objects_rest c.args.self.now c.args.self.now (is_changed_by c.args.self.now past c.args.entry.now) (λ number was is. refl);
+      agree = λ past m fit p h spares bytes agree. agree;
     }

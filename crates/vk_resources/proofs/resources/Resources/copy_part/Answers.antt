@@ -2,7 +2,9 @@ use Rattle.std.proofs.Common.{refl, sym, subst}
 use Rattle.vk_model.specs.Trace.Point.{Past}
 use Rattle.vk_model.specs.Trace.Objects.{live}
 use Rattle.vma_defrag.specs.Bytes.{KeepsObjects}
+use Rattle.vk_backing.specs.PassAllots.{StaysAllotted}
 use Rattle.vk_backing.specs.Passing.{ArePassing, CopiesAgree}
+use Rattle.vk_resources.specs.Allocating.{allotted}
 use Rattle.vk_resources.specs.Held.{Held}
 use Rattle.vk_resources.specs.Matches.{Stands}
 use Rattle.vk_resources.specs.PassSteps.{KeepsCells}
@@ -18,6 +20,11 @@ invariant_of-self c =
 
 pub returns-clause-agree : goal.returns-clause-agree
 returns-clause-agree c = λ agree. c.copy_part.ensures.agree (subst (λ (x : Held). CopiesAgree c.args.passes.now x.backed x.memory) (sym c.self.view_is) agree)
+
+pub returns-clause-allots : goal.returns-clause-allots
+returns-clause-allots c =
+    let s : Held = record { memory = c.self.inside.memories; backed = c.self.inside.backing; resources = c.self.inside.resources.entries; shapes = c.self.inside.shapes.entries; cache = c.self.inside.cache } in
+    subst (λ (x : Held). StaysAllotted (allotted x) c.args.passes.now (allotted (record s { memory = c.copy_part.new.memories })) c.copy_part.new.self) c.self.view_is c.copy_part.ensures.allots
 
 pub returns-clause-keeps : goal.returns-clause-keeps
 returns-clause-keeps c =

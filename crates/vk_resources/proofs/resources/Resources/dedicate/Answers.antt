@@ -14,4 +14,4 @@ returns-clause-made c =
     let old : Held = record { memory = c.self.inside.memories; backed = c.self.inside.backing; resources = c.self.inside.resources.entries; shapes = c.self.inside.shapes.entries; cache = c.self.inside.cache } in
     let new : Held = backed_with old c.dedicate.new.self c.dedicate.new.memories in
     subst (λ (s : Held). IfOk c.dedicate.result (λ o. MadeOr o s new c.args.id c.args.memory_type c.args.asked.size)) c.self.view_is
-    (made old c.dedicate.new.self c.dedicate.new.memories c.dedicate.ensures.backed c.args.id c.args.memory_type c.args.asked.size c.dedicate.result c.dedicate.ensures.owns c.dedicate.ensures.whole (dedicated_stays old c.dedicate.new.self c.dedicate.new.memories c.dedicate.ensures.backed c.args.id c.args.memory_type c.args.asked c.dedicate.result c.dedicate.ensures.owns c.dedicate.ensures.dedicated) c.dedicate.ensures.allots)
+    (made old c.dedicate.new.self c.dedicate.new.memories c.dedicate.ensures.backed c.args.id c.args.memory_type c.args.asked.size c.dedicate.result c.dedicate.ensures.owns c.dedicate.ensures.whole (dedicated_stays old c.dedicate.new.self c.dedicate.new.memories c.dedicate.ensures.backed c.self.invariant.0.backed_is c.dedicate.ensures.grows c.args.id c.args.memory_type c.args.asked c.dedicate.result c.dedicate.ensures.owns c.dedicate.ensures.dedicated) c.dedicate.ensures.allots)

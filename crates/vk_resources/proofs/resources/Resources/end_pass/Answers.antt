@@ -1,13 +1,16 @@
-use Rattle.std.proofs.Common.{◌∙◌, ℕ, List, Option, refl, sym, subst}
+use Rattle.std.proofs.Common.{◌≡◌, ◌∙◌, ℕ, List, OnOk, Option, refl, sym, subst}
 use Rattle.std.specs.Prelude.{IfSome}
 use Rattle.std.proofs.lemmas.Result.{on_ok_weaker}
 use Rattle.vk_model.specs.Trace.Objects.{live}
+use Rattle.vk_backing.specs.Allotted.{Allotted}
 use Rattle.vk_backing.specs.Backed.{Backed}
+use Rattle.vk_backing.specs.PassAllots.{EndAllots}
 use Rattle.vk_backing.specs.Passing.{ArePassing}
 use Rattle.vk_backing.specs.PassSteps.{AreDestroyed}
 use Rattle.vk_backing.proofs.Grown.{some_there}
+use Rattle.vk_resources.specs.Allocating.{allotted}
 use Rattle.vk_resources.specs.Inner.PassEnds.{ForgetsEach, HoldsNoneOf, Settles}
-use Rattle.vk_resources.proofs.EndingPasses.{ended_stands, ends_from, ends_resources, forgot_stands, have_homes}
+use Rattle.vk_resources.proofs.EndingPasses.{ended_stands, ends_from, ends_resources, forgot_allotted, forgot_stands, have_homes}
 use Rattle.vk_resources.proofs.EndedCells.{drops}
 use Rattle.vk_resources.proofs.PuttingAnew.{none_held}
 use Rattle.vk_resources.proofs.resources.Resources.end_pass.Goals as goal
@@ -74,3 +77,10 @@ returns-clause-stands c =
     let stands = forgot_stands destroyed first s g past (forgot_stands c.deref.result.now old first f past m) in
     ended_stands s new p q passing open_id.0 moving ignored destroyed refl e c.settle.ensures.consistent past stands.live are_ended lives n d)
     c.settle.ensures.settles
+
+pub returns-clause-allots : goal.returns-clause-allots
+returns-clause-allots c =
+    let p = c.args.passes.now in let q = c.settle.new.passes in let new = c.settle.new.self in
+    let f = c.forget_each.ensures.forgets in let g = c.forget_each-2.ensures.forgets in
+    let same : allotted c.forget_each-2.new.self ≡ allotted c.args.self.now = forgot_allotted c.args.destroyed.now c.forget_each.new.self c.forget_each-2.new.self g ∙ forgot_allotted c.deref.result.now c.args.self.now c.forget_each.new.self f in
+    subst (λ (a : Allotted). OnOk c.settle.result (IfSome p.opened (λ id. EndAllots a p (allotted new) q id c.args.ignored.now c.args.destroyed.now))) same c.settle.ensures.allots

@@ -145,7 +145,7 @@ pub returns-in-Dedicated-clause-passing : goal.returns-in-Dedicated-clause-passi
 returns-in-Dedicated-clause-passing c = IfOk-weaker c.make_resource.result _ _ (λ a made. resource_passing a c.args.self.now c.make_resource.new.self c.args.id c.in-Dedicated.memory_type _ _ _ made) c.make_resource.ensures.made
 
 pub returns-in_ok-bind-in-Memory-clause-passing : goal.returns-in_ok-bind-in-Memory-clause-passing
-returns-in_ok-bind-in-Memory-clause-passing c = same_passing c.args.self.now c.bind.new.self c.in_ok-bind-in-Memory.ensures.bound.1
+returns-in_ok-bind-in-Memory-clause-passing c = same_passing c.args.self.now c.bind.new.self c.in_ok-bind-in-Memory.ensures.bound.0 c.in_ok-bind-in-Memory.ensures.bound.1
 
 pub returns-in-Pool-clause-passing : goal.returns-in-Pool-clause-passing
 returns-in-Pool-clause-passing c = IfOk-weaker c.make_shared.result _ _ (λ a made. put_passing a c.args.self.now c.make_shared.new.self c.args.id c.in-Pool.pool _ _ _ _ made) c.make_shared.ensures.made

@@ -18,4 +18,4 @@ returns-in_ok-put-in-Some-clause-made c =
     let found : FoundOr (Some c.in-Some.spot) c.args.self.now c.find.new.self c.args.id c.args.pool c.args.asked c.args.upper =
     subst (λ (o : Option Spot). FoundOr o c.args.self.now c.find.new.self c.args.id c.args.pool c.args.asked c.args.upper) c.in-Some.is c.in_ok-spot.ensures.found in
     let put = c.in_ok-put-in-Some.ensures in
-    (c.in-Some.spot, shared_put c.args.self.now c.find.new.self c.put.new.self put.memory put.backed c.args.id c.args.pool c.args.size c.args.asked c.args.upper c.args.shape c.in-Some.spot c.requires.apart found c.find.ensures.grows put.put put.cache)
+    (c.in-Some.spot, shared_put c.args.self.now c.find.new.self c.put.new.self put.memory put.backed c.find.ensures.consistent c.args.id c.args.pool c.args.size c.args.asked c.args.upper c.args.shape c.in-Some.spot c.requires.apart found c.find.ensures.grows put.put put.cache)
