@@ -1,4 +1,4 @@
-mod Keyed
+pub mod Keyed
 pub mod Grown
 mod Heaps
 pub mod Owning
@@ -42,7 +42,7 @@ mod OpenAllots
 mod BeginAllots
 mod UndefragAllots
 mod CopyAllots
-mod Cleared
+pub mod Cleared
 mod PassEnded
 mod CloseAllots
 pub mod Opening

@@ -1,6 +1,6 @@
 -- What holds of defragmentations where the open pass changes.
 use Rattle.std.proofs.Common.{◌≡◌, ℕ, List, [], Option, Some, None, refl, sym, ap, subst, ◌∙◌, inl, inr, ◌⊎◌}
-use Rattle.std.specs.Prelude.{IsSome}
+use Rattle.std.specs.Prelude.{IsSome, option_map}
 use Rattle.std.specs.Ordering.{nat_cmp}
 use Rattle.std.specs.Map.{lookup}
 use Rattle.std.specs.BTreeMap.{BTreeMap, WritesThrough, is_at}
@@ -68,6 +68,13 @@ still_some left (Some p) some = refl
 module _ (old new : Passing) (b : Backed) (h : ArePassing old b) (id : ℕ) (d : DefragState) (is : old.opened ≡ Some id) (was : defrag_in old id ≡ Some d) (left : List ℕ) (here : defrag_in new id ≡ Some (with_left left d)) (others : (i : ℕ) → (i ≡ id → ⊥) → defrag_in new i ≡ defrag_in old i) (opened : new.opened ≡ old.opened) (moving : new.moving ≡ old.moving) where
   open_was : open_defrag old ≡ Some d
   open_was = open_is old id is ∙ was
+
+  pub left_pools : (i : ℕ) → option_map (λ (x : DefragState). x.pool) (defrag_in new i) ≡ option_map (λ (x : DefragState). x.pool) (defrag_in old i)
+  left_pools i = elim (cases_eq i id) [
+    | inl e ↦ ap (λ (j : ℕ). option_map (λ (x : DefragState). x.pool) (defrag_in new j)) e ∙ ap (λ (o : Option DefragState). option_map (λ (x : DefragState). x.pool) o) here
+        ∙ sym (ap (λ (j : ℕ). option_map (λ (x : DefragState). x.pool) (defrag_in old j)) e ∙ ap (λ (o : Option DefragState). option_map (λ (x : DefragState). x.pool) o) was)
+    | inr other ↦ ap (λ (o : Option DefragState). option_map (λ (x : DefragState). x.pool) o) (others i other)
+  ]
 
   open_now : open_defrag new ≡ Some (with_left left d)
   open_now = open_is new id (opened ∙ is) ∙ here

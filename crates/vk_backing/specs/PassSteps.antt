@@ -1,5 +1,5 @@
 -- What the calls on defragmentations change.
-use Rattle.std.specs.Prelude.{◌≡◌, ℕ, ◌+◌, ◌%◌, ◌<◌, List, [], Contains, AllPairs, get_or, Some, None, not, ◌==◌}
+use Rattle.std.specs.Prelude.{◌≡◌, ℕ, ◌+◌, ◌%◌, ◌<◌, List, [], Contains, AllPairs, get_or, Some, None, option_map, not, ◌==◌}
 use Rattle.std.specs.List.{filter, filter_map}
 use Rattle.vk_memory.specs.MemoryState.{MemoryState, object_at, type_of}
 use Rattle.vk_model.specs.declared.resource.Spot.{Spot}
@@ -50,10 +50,11 @@ pub record MovesAt (p : Passing) (b : Backed) (index id : ℕ) (from to : Spot) 
   pub lies : LiesIn b id pool from
   pub between : MovesBetween b.pools (get_or (open_moves p) index no_move).id from to
 
--- A part of the open pass was copied: no byte of a resource has changed where it lies, and no memory object that an id has of its own (VMA, "Defragmentation"; parts: profile).
+-- A part of the open pass was copied: the defragmentations are of the same pools, no byte of a resource has changed where it lies, and no memory object that an id has of its own (VMA, "Defragmentation"; parts: profile).
 pub record Copies (old new : Passing) (b : Backed) (part : ℕ) (before after : MemoryState) : Type 0 where
   pub moves : open_moves new ≡ open_moves old
   pub left : parts_left new ≡ filter (λ k. not (k == part)) (parts_left old)
+  pub pools : (i : ℕ) → option_map (λ d. d.pool) (defrag_in new i) ≡ option_map (λ d. d.pool) (defrag_in old i)
   pub opened : new.opened ≡ old.opened
   pub moving : new.moving ≡ old.moving
   pub copies : CopiesPart b.pools (open_moves old) part before after

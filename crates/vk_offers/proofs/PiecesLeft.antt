@@ -114,7 +114,7 @@ fewer_kept p q more (k ∷ ks) = go (p k) (q k) refl refl (fewer_kept p q more k
     go false true e f rest = omega arith
     go false false e f rest = rest
 
-one_fewer_kept : (p q : ℕ → Bool) → ((k : ℕ) → p k ≡ true → q k ≡ true) → (ks : List ℕ) (x : ℕ) → Contains ks x → p x ≡ false → q x ≡ true → length (filter p ks) < length (filter q ks)
+pub one_fewer_kept : (p q : ℕ → Bool) → ((k : ℕ) → p k ≡ true → q k ≡ true) → (ks : List ℕ) (x : ℕ) → Contains ks x → p x ≡ false → q x ≡ true → length (filter p ks) < length (filter q ks)
 one_fewer_kept p q more [] x c fails passes = absurd (none_in x c)
 one_fewer_kept p q more (k ∷ ks) x c fails passes = elim (contains-cons k ks x c) [
   | inl same ↦ first same

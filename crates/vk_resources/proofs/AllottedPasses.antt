@@ -133,7 +133,7 @@ place_moves d e i r (place.Memory m o) gets = subst (λ (x : Allocated). KeepsMo
 -- ---- the entries that begin and end no pass
 
 -- an entry of no defragmentation
-pub IsNoPass : Entry → Type 0
+unfoldable pub IsNoPass : Entry → Type 0
 IsNoPass (entry.Defrag i p b m) = ⊥
 IsNoPass (entry.Pass i) = ⊥
 IsNoPass (entry.EndPass i kept lost) = ⊥

@@ -31,7 +31,7 @@ mod WritingBack
 mod CopyingParts
 mod KeptCopies
 pub mod AllottedPasses
-mod PuttingAnew
+pub mod PuttingAnew
 mod MovedPlaces
 mod EndingPasses
 mod EndedCells

@@ -41,13 +41,9 @@ AtomReady s x k = (past : Past) × Stands past s × FitsEntry past x × (k < ato
 abbrev pub TurnsOver : Entry → ℕ → Held → Held → Type 0
 TurnsOver x k old new = (c : Byte) (cell : Cell) → IsThere old c → HasCell old c cell → HasCell new c (if in_atoms (touched_by x) (k ∷ []) c then turned_over cell else cell)
 
--- The resources that an entry moves, by their ids: none, as no pass of a defragmentation comes here yet (VMA, "Defragmentation").
-abbrev pub moved_by : Held → Entry → Held → List ℕ
-moved_by old x new = []
-
--- The bytes of what has a place in memory before and after an entry become what it makes of them, in memory and in the host's cache (Vulkan, "Host Access to Device Memory Objects").
+-- The bytes of what has a place in memory before and after an entry that moves nothing become what it makes of them, in memory and in the host's cache (Vulkan, "Host Access to Device Memory Objects").
 abbrev pub LeavesCells : Past → Entry → Held → Held → Type 0
-LeavesCells past x old new = (c : Byte) (cell : Cell) → IsThere old c → IsThere new c → HasCell old c cell → HasCell new c (after_host past (moved_by old x new) x c cell)
+LeavesCells past x old new = (c : Byte) (cell : Cell) → IsThere old c → IsThere new c → HasCell old c cell → HasCell new c (after_host past [] x c cell)
 
 -- Of what gets a place the host's cache holds nothing.
 abbrev pub HoldsNoneNew : Held → Held → Type 0

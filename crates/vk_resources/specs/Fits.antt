@@ -1,4 +1,4 @@
--- What is taken for granted of the commands and entries that come. Those that break no rule and are of a supported form have it.
+-- What is taken for granted of the commands and entries that come. Those that break no rule have it.
 use Rattle.std.specs.Prelude.{◌≡◌, ℕ, ◌+◌, ◌*◌, ◌/◌, ◌<◌, ◌≤◌, ◌==◌, List, All, Contains, length, Bool, false, Option, Some, None, IsTrue, IsSomeAnd, option_and_then, ⊤}
 use Rattle.std.specs.List.{list_any}
 use Rattle.vk_model.specs.declared.command.Cmd.{Cmd}

@@ -141,7 +141,8 @@ impl Resources {
     /// How many atoms the buffer has in cached memory that the host accesses by an entry; none where it
     /// accesses no such buffer.
     pub fn atoms(&self, entry: &Entry) -> u64
-        ensures { (past : Past) → Stands past self.now → FitsEntry past entry.now → result ≡ atom_count past entry.now }
+        ensures counted { (past : Past) → Stands past self.now → FitsEntry past entry.now → result ≡ atom_count past entry.now }
+        ensures none { touched_by entry.now ≡ None → result ≡ 0 }
     {
         match accessed(entry) {
             Some(buffer) => match self.cached(buffer) {

@@ -65,7 +65,7 @@ impl Model for Resources {
 }
 
 impl Resources {
-    ghost use Rattle.vk_resources.specs.Held.{placed, flat, spot_of, IsSpotIn};
+    ghost use Rattle.vk_resources.specs.Held.{placed, flat, spot_of, IsConsistent, IsSpotIn};
     ghost use Rattle.vk_resources.specs.Inner.Steps.{cached_at};
 
     /// No resources, on heaps of these sizes. It takes no memory.
@@ -84,6 +84,14 @@ impl Resources {
             shapes: BTreeMap::new(alloc),
             cache: HostCache::new(alloc),
         }
+    }
+
+    /// What always holds of what is held: each resource lies inside a memory object and shares no byte
+    /// with another one, and the host's cache holds bytes of those in cached memory alone.
+    pub fn are_resources(&self)
+        ensures { IsConsistent self.now }
+    {
+        let _memories = &self.memories;
     }
 
     /// Where a resource lies, by its id; none where there is no such resource.

@@ -13,7 +13,7 @@ use Rattle.vk_backing.specs.Allotted.{allotted}
 use Rattle.vk_backing.specs.PassAllots.{StaysAllotted}
 use Rattle.vk_backing.proofs.CopyAllots.{copy_allotted}
 use Rattle.vk_backing.proofs.KeptObjects.{kept_backed}
-use Rattle.vk_backing.proofs.OpenPass.{left_moves, left_parts, left_passing, lent}
+use Rattle.vk_backing.proofs.OpenPass.{left_moves, left_parts, left_passing, left_pools, lent}
 use Rattle.vk_backing.proofs.Passing.{open_is, open_planned}
 use Rattle.vk_backing.proofs.passes.Passes.copy_part.Goals as goal
 
@@ -58,6 +58,7 @@ returns-clause-copies c =
     subst (λ (p : Passing). Copies p new b c.args.part c.args.memories.now c.copy_part.new.memories) c.self.view_is (record {
       moves = left_moves old new b h id d c.in-Some.is (sym c.in-Some-get_mut.ensures.value) left here writes.1 refl refl;
       left = left_parts old new b h id d c.in-Some.is (sym c.in-Some-get_mut.ensures.value) left here writes.1 refl refl ∙ ap (λ (o : Option DefragState). filter (λ k. not (k == c.args.part)) (left_by o)) (sym is);
+      pools = left_pools old new b h id d c.in-Some.is (sym c.in-Some-get_mut.ensures.value) left here writes.1 refl refl;
       opened = refl;
       moving = refl;
       copies = subst (λ (o : Option DefragState). CopiesPart b.pools (moves_by o) c.args.part c.args.memories.now c.copy_part.new.memories) (sym is) now;
