@@ -1,12 +1,12 @@
 -- How an allowed run has led to a device, and what the device answers to what comes next.
-use Rattle.std.specs.Prelude.{◌≡◌, ℕ, suc, List, [], ◌∷◌, ◌++◌, map, Contains, Some, None, IsTrue}
+use Rattle.std.specs.Prelude.{◌≡◌, ℕ, suc, List, [], ◌∷◌, ◌++◌, map, Contains, Some, None}
 use Rattle.vk_model.specs.declared.command.Cmd.{Cmd}
 use Rattle.vk_model.specs.declared.entry.Entry.{Entry}
 use Rattle.vk_model.specs.Trace.Point.{Past}
 use Rattle.vk_model.specs.Trace.Order.{order}
 use Rattle.vk_model.specs.Sync.Node.{Runs, nodes}
 use Rattle.vk_model.specs.Rules.Table.{first_fault}
-use Rattle.vk_model.specs.Run.Runs.{Step, Stage, RunPiece}
+use Rattle.vk_model.specs.Run.Runs.{Step, Stage, RunPiece, CopyPart, parts_left}
 use Rattle.vk_model.specs.Run.CachedRuns.{write_to, named_piece}
 use Rattle.vk_model.specs.World.Bytes.{Byte}
 use Rattle.vk_model.specs.World.ByteWrites.{ByteWrite}
@@ -25,16 +25,17 @@ use Rattle.vk_resources.specs.declared.applied.Applied.TheVariants as applied
 use Rattle.vk_resources.specs.Held.{byte_at, IsThere, HasCell}
 use Rattle.vk_resources.specs.Rest.{KeepsRest, is_written}
 use Rattle.vk_resources.specs.Matches.{Stands}
-use Rattle.vk_backing.specs.Passing.{ArePassing}
+use Rattle.vk_resources.specs.PassSteps.{KeepsCells}
+use Rattle.vk_backing.specs.Passing as backing
+use Rattle.vk_backing.specs.PassSteps.{Copies}
 use Rattle.vk_device.specs.declared.device.Device.{Device}
-use Rattle.vk_device.specs.Empty.{none_begun}
-use Rattle.vk_model.specs.Trace.Supported.{is_supported}
+use Rattle.vk_device.specs.Passes.{HasPasses, parts_begun}
 
 -- A device has made ready the clears and copies of a past, in their order.
 abbrev pub AreWorks : List Cmd → Past → Type 0
 AreWorks works past = map Runs works ≡ map (λ n. n.act) (commands_in (nodes past))
 
--- An allowed run of a trace has led to a device: these steps, without caches of queues, to this stage and to some bytes of memory with what the host's cache holds of them, which are those of the device wherever a resource lies. The device has the buffers and the memory objects that are live, the batches that wait, the entries that were applied, the commands that were started, and the pieces that may run next; and no defragmentation has begun (Vulkan, "Execution and Memory Dependencies").
+-- An allowed run of a trace has led to a device: these steps, without caches of queues, to this stage and to some bytes of memory with what the host's cache holds of them, which are those of the device wherever a resource lies. The device has the buffers and the memory objects that are live, the batches that wait, the entries that were applied, the commands that were started, the pieces that may run next, and the passes of defragmentations (Vulkan, "Execution and Memory Dependencies"; VMA, "Defragmentation").
 pub record Led (t : List Entry) (steps : List Step) (s : Stage) (d : Device) : Type 0 where
   pub memory : HostMemory
   pub run : DirectRun t steps s memory
@@ -44,14 +45,11 @@ pub record Led (t : List Entry) (steps : List Step) (s : Stage) (d : Device) : T
   pub waits : IsWaiting d.waiting d.count s.front
   pub counts : d.count ≡ s.count
   pub offers : IsOffers d.offers s.front.past s.done
-  pub no_parts : s.parts ≡ 0
-  pub passing : ArePassing d.passes d.resources.backed
-  pub none_begun : d.passes ≡ none_begun
+  pub passes : HasPasses (parts_left s) s.front.past d.passes d.resources
 
--- The trace has no fault, and each of its points is of a supported form so far.
+-- The trace has no fault.
 pub record IsSoundTrace (t : List Entry) : Type 0 where
   pub faultless : first_fault t ≡ None
-  pub supported : IsTrue (is_supported (order t))
 
 -- A device is before an entry of a trace.
 pub record IsBefore (t : List Entry) (steps : List Step) (s : Stage) (x : Entry) (xs : List Entry) (d : Device) : Type 0 where
@@ -98,13 +96,34 @@ HasWritten old new piece =
     (t : List Entry) (steps : List Step) (s : Stage) (c : Byte) (w : ByteWrite) (v : ℕ) → Led t steps s old → IsSoundTrace t → write_to c (named_piece s.front.past (name_of s.front.past piece)) ≡ Some w
     → value_before (order t) (suc (name_of s.front.past piece).0) c ≡ Some v → byte_at new.resources c ≡ v
 
+-- ---- a part that may be copied
+
+-- A part of the open pass may be copied on a device that a run of some trace has led to.
+pub record MayCopy (d : Device) (part : ℕ) : Type 0 where
+  pub t : List Entry
+  pub steps : List Step
+  pub s : Stage
+  pub led : Led t steps s d
+  pub among : Contains (backing.parts_left d.passes) part
+
+-- It has been copied.
+abbrev pub HasCopied : Device → Device → ℕ → Type 0
+HasCopied old new part =
+    (t : List Entry) (steps : List Step) (s : Stage) → Led t steps s old
+    → Led t (steps ++ CopyPart part ∷ []) (record s { copied = part ∷ s.copied }) new
+
+-- No byte of a resource has changed, and of memory only the bytes of the part, at the place that is reserved for what moves (VMA, "Defragmentation").
+pub record CopiesOnly (old new : Device) (part : ℕ) : Type 0 where
+  pub cells : KeepsCells old.resources new.resources
+  pub copies : Copies old.passes new.passes old.resources.backed part old.resources.memory new.resources.memory
+
 -- ---- an entry that is applied
 
 module _ (answer : List ℕ → ℕ → ℕ) (next : List ℕ → ℕ → List ℕ) where
   -- An entry was applied: the steps that the scheduler picked before it have led here, and then the entry. Where there was no room those before it alone have (profile).
   abbrev pub Applies : Applied → List Entry → List Step → Stage → List ℕ → Entry → List Entry → Device → List ℕ → Type 0
   Applies applied.NoRoom t steps s held x xs new after = let p = before_entry answer next s held x in Led t (steps ++ p.steps) p.stage new × (after ≡ p.held)
-  Applies _ t steps s held x xs new after = let p = entry_picks answer next 0 s held x xs in Led t (steps ++ p.steps) p.stage new × (after ≡ p.held)
+  Applies _ t steps s held x xs new after = let p = entry_picks answer next (parts_begun new.passes x) s held x xs in Led t (steps ++ p.steps) p.stage new × (after ≡ p.held)
 
 -- What an entry reads (Vulkan, "Host Access to Device Memory Objects").
 abbrev pub Reads : Applied → Stage → Entry → Type 0

@@ -1,5 +1,5 @@
 pub mod Empty
-pub mod Passes
 pub mod Led
+pub mod Passes
 pub mod Replays
 pub mod Inner

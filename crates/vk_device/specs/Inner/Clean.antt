@@ -4,9 +4,7 @@ use Rattle.vk_model.specs.declared.rule.Rule.{Rule}
 use Rattle.vk_model.specs.Trace.Point.{Past, Point}
 use Rattle.vk_model.specs.Rules.Table.{breaks}
 use Rattle.vk_model.specs.Rules.Fault.{Comes}
-use Rattle.vk_model.specs.Trace.Supported.{is_supported}
 
--- No point of a past breaks a rule, and each is of a supported form so far.
+-- No point of a past breaks a rule.
 pub record IsClean (past : Past) : Type 0 where
   pub sound : (before : Past) (p : Point) (r : Rule) → Comes past before p → IsTrue (breaks r before p) → ⊥
-  pub supported : IsTrue (is_supported past)

@@ -2,6 +2,8 @@
 use Rattle.std.specs.Prelude.{◌≡◌, ℕ, ◌+◌, ◌<◌, List, [], ◌∷◌, ◌++◌, length, Option, Some, None, Bool, true, false, if◌then◌else◌, IsTrue}
 use Rattle.vk_model.specs.declared.entry.Entry.{Entry}
 use Rattle.vk_model.specs.declared.command.Cmd.{Cmd}
+use Rattle.vk_model.specs.declared.entry.Entry.TheVariants as entry
+use Rattle.vk_model.specs.Basics.{below}
 use Rattle.vk_model.specs.Trace.Point.{Past, Point, Run}
 use Rattle.vk_model.specs.Trace.Order.{host}
 use Rattle.vk_model.specs.World.Bytes.{Byte}
@@ -9,8 +11,8 @@ use Rattle.vk_model.specs.Run.Pieces.{pieces}
 use Rattle.vk_model.specs.Run.Runs.{Name, Step, Stage, RunPiece, Apply, may_go, touched_by, atom_count}
 use Rattle.vk_model.specs.Run.Runs as runs
 use Rattle.vk_model.specs.Run.Picks.{before_entry, atom_picks}
-use Rattle.vk_model.specs.Run.Caches.{Cell}
-use Rattle.vk_model.specs.Run.CachedRuns.{in_atoms, turned_over}
+use Rattle.vk_model.specs.Run.Caches.{Cell, queue_agent}
+use Rattle.vk_model.specs.Run.CachedRuns.{after_host, in_atoms, turned_over}
 use Rattle.vk_model.specs.Sync.Node.{Node, nodes}
 use Rattle.vk_laws.specs.DirectRuns.{DirectRun, HostMemory, cells_of}
 use Rattle.vk_queues.specs.IsWaiting.{IsWaiting}
@@ -18,10 +20,14 @@ use Rattle.vk_offers.specs.IsOffers.{IsOffers, CountsBefore, host_node, is_free_
 use Rattle.vk_resources.specs.Held.{Held, IsThere, HasCell}
 use Rattle.vk_resources.specs.Matches.{Stands}
 use Rattle.vk_resources.specs.Fits.{FitsCommand, NamesLive}
-use Rattle.vk_resources.specs.Done.{CommandReady}
-use Rattle.vk_backing.specs.Passing.{ArePassing}
+use Rattle.vk_resources.specs.declared.applied.Applied.{Applied}
+use Rattle.vk_resources.specs.declared.applied.Applied.TheVariants as applied
+use Rattle.vk_resources.specs.Done.{CommandReady, HoldsNoneNew, ReadsBytes, ReadsNothing}
+use Rattle.vk_resources.specs.PassSteps.{AreClean}
+use Rattle.vk_backing.specs.Passing.{Passing, ArePassing, CopiesAgree}
 use Rattle.vk_device.specs.declared.device.Device.{Device}
-use Rattle.vk_device.specs.Empty.{none_begun}
+use Rattle.vk_device.specs.Inner.Clean.{IsClean}
+use Rattle.vk_device.specs.Passes.{HasPasses, parts_begun}
 use Rattle.vk_device.specs.Led.{Led, AreWorks, IsBefore, IsSoundTrace}
 
 -- The commands before an entry that waits for them: how many of each queue; none where it waits for none. When it may be applied goes by them, whichever pieces have run then.
@@ -30,6 +36,10 @@ Waited d x None = (s : Stage) → may_go s x ≡ true
 Waited d x (Some counts) = (t : List Entry) (steps : List Step) (s : Stage) (xs : List Entry) → IsBefore t steps s x xs d → CountsBefore (host_node s.front.past s.count x ∷ nodes s.front.past) (host_node s.front.past s.count x) counts
     × ((done : List Name) → may_go (record s { done = done }) x ≡ is_free_next s.front.past done (host_node s.front.past s.count x))
 
+-- What was copied of an open pass stays the same at both places, where all that the host has written to what moves has reached memory, and that stays so (VMA, "Defragmentation").
+abbrev pub KeepsPasses : Held → Held → Type 0
+KeepsPasses old new = (p : Passing) → ArePassing p old.backed → AreClean p.moving old → CopiesAgree p old.backed old.memory → AreClean p.moving new × CopiesAgree p new.backed new.memory
+
 -- Just before an entry the host's cache has taken up or given back atoms of the buffer that it accesses, and nothing else has changed (Vulkan, "Host Access to Device Memory Objects").
 pub record HasTouched (x : Entry) (atoms : List ℕ) (old new : Held) : Type 0 where
   pub cells : (c : Byte) (cell : Cell) → IsThere old c → HasCell old c cell → HasCell new c (if in_atoms (touched_by x) atoms c then turned_over cell else cell)
@@ -37,6 +47,7 @@ pub record HasTouched (x : Entry) (atoms : List ℕ) (old new : Held) : Type 0 w
   pub resources : new.resources ≡ old.resources
   pub shapes : new.shapes ≡ old.shapes
   pub backed : new.backed ≡ old.backed
+  pub copies : KeepsPasses old new
   pub same : atoms ≡ [] → new ≡ old
 
 -- The scheduler was asked for each atom that the buffer has in the host's cache, and those have been taken up or given back that it picked (profile).
@@ -44,19 +55,63 @@ pub record Touches (answer : List ℕ → ℕ → ℕ) (next : List ℕ → ℕ 
   pub touched : HasTouched x (atom_picks answer next (atom_count past x) 0 held).0 old new
   pub holds : after ≡ (atom_picks answer next (atom_count past x) 0 held).1
 
+-- ---- an entry is done by itself
+
+-- The resources that an entry moves: those of the pass that it begins or ends (VMA, "Defragmentation").
+abbrev pub moved_by : Passing → Entry → Passing → List ℕ
+moved_by old (entry.Pass d) new = new.moving
+moved_by old (entry.EndPass d kept lost) new = old.moving
+moved_by old x new = []
+
+-- The parts that are left when an entry has been applied: all those of a pass that it begins, and none where it ends one (VMA, "Defragmentation").
+abbrev pub parts_with : Passing → Entry → List ℕ → List ℕ
+parts_with new (entry.Pass d) parts = below (parts_begun new (entry.Pass d))
+parts_with new (entry.EndPass d kept lost) parts = []
+parts_with new x parts = parts
+
+-- An entry may be done on a device: it breaks no rule after some points, and the device has what is live then and the passes that are open.
+pub record MayChange (d : Device) (x : Entry) : Type 0 where
+  pub number : ℕ
+  pub past : Past
+  pub parts : List ℕ
+  pub clean : IsClean (host number x ∷ past)
+  pub stands : Stands past d.resources
+  pub passes : HasPasses parts past d.passes d.resources
+
+-- No queue's cache holds anything of a byte (Vulkan, "Execution and Memory Dependencies").
+abbrev pub IsOnHost : Cell → Type 0
+IsOnHost cell = (q : ℕ) → cell.held (queue_agent q) ≡ None
+
+-- Resources and passes go on with an entry: they are those of the past with it, the bytes of those that were there before are what it leaves, and nothing is held of new ones (Vulkan, "Resource Creation", "Object Lifetime" and "Host Access to Device Memory Objects"; VMA, "Defragmentation").
+pub record GoesOn (number : ℕ) (x : Entry) (past : Past) (parts : List ℕ) (old : Held) (p : Passing) (new : Held) (q : Passing) : Type 0 where
+  pub stands : Stands (host number x ∷ past) new
+  pub cells : (c : Byte) (cell : Cell) → IsOnHost cell → IsThere old c → IsThere new c → HasCell old c cell → HasCell new c (after_host past (moved_by p x q) x c cell)
+  pub bare : HoldsNoneNew old new
+  pub passes : HasPasses (parts_with q x parts) (host number x ∷ past) q new
+
+-- What is answered to an entry, and what it has done; where there was no room nothing was changed, and the entry accesses no buffer.
+abbrev pub IsDone : Applied → ℕ → Entry → Past → List ℕ → Held → Passing → Held → Passing → Type 0
+IsDone applied.Done e x past parts old p new q = GoesOn e x past parts old p new q × ReadsNothing x
+IsDone (applied.Bytes bytes) e x past parts old p new q = GoesOn e x past parts old p new q × ReadsBytes x old bytes
+IsDone applied.NoRoom e x past parts old p new q = (new ≡ old) × (q ≡ p) × (touched_by x ≡ None)
+
+-- It has done so wherever a device may be in a trace.
+abbrev pub HasDone : Applied → Entry → Device → Device → Type 0
+HasDone a x old new =
+    (e : ℕ) (past : Past) (parts : List ℕ) → IsClean (host e x ∷ past) → Stands past old.resources → HasPasses parts past old.passes old.resources
+    → IsDone a e x past parts old.resources old.passes new.resources new.passes
+
 -- An entry has been done by itself, after these atoms: the run has come to its stage, and its points haven't come to the device.
 pub record HostDone (t : List Entry) (steps : List Step) (s : Stage) (x : Entry) (xs : List Entry) (atoms : List ℕ) (d : Device) : Type 0 where
   pub memory : HostMemory
-  pub run : DirectRun t (steps ++ Apply atoms 0 ∷ []) (runs.applied s 0 x xs) memory
+  pub run : DirectRun t (steps ++ Apply atoms (parts_begun d.passes x) ∷ []) (runs.applied s (parts_begun d.passes x) x xs) memory
   pub holds : (c : Byte) → IsThere d.resources c → HasCell d.resources c (cells_of memory c)
   pub matches : Stands (host s.count x ∷ s.front.past) d.resources
   pub works : AreWorks d.works.items s.front.past
   pub waits : IsWaiting d.waiting d.count s.front
   pub counts : d.count ≡ s.count
   pub offers : IsOffers d.offers s.front.past s.done
-  pub no_parts : s.parts ≡ 0
-  pub passing : ArePassing d.passes d.resources.backed
-  pub none_begun : d.passes ≡ none_begun
+  pub passes : HasPasses (runs.parts_left (runs.applied s (parts_begun d.passes x) x xs)) (host s.count x ∷ s.front.past) d.passes d.resources
   pub sound : IsSoundTrace t
 
 -- An entry of some trace has been.
@@ -97,7 +152,7 @@ Picks answer next t steps s held x new after =
     let p = before_entry answer next s held x in
     Led t (steps ++ p.steps) p.stage new × (after ≡ p.held) × IsTrue (may_go p.stage x)
 
--- How many options there are before an entry: so many pieces, and the entry where it may be applied (profile).
+-- How many options there are before an entry: so many pieces and parts, and the entry where it may be applied (profile).
 abbrev pub option_count : ℕ → Bool → ℕ
-option_count pieces true = pieces + 1
-option_count pieces false = pieces
+option_count steps true = steps + 1
+option_count steps false = steps
