@@ -1,10 +1,10 @@
 -- What the rules promise of the points of a clean past.
-use Rattle.std.proofs.Common.{◌≡◌, ℕ, length, ◌++◌, subst, ◌+◌, ◌-◌, ◌*◌, ◌/◌, ◌%◌, ◌<◌, ◌≤◌, List, [], ◌∷◌, Bool, true, false, ◌||◌, ◌==◌, nat_lt, nat_le, refl, ap, sym, ◌∙◌, arith, Option, Some, None}
+use Rattle.std.proofs.Common.{◌≡◌, ℕ, length, ◌++◌, subst, ◌+◌, ◌-◌, ◌*◌, ◌/◌, ◌%◌, ◌<◌, ◌≤◌, List, [], ◌∷◌, Bool, false, ◌||◌, ◌==◌, nat_lt, nat_le, refl, ap, sym, ◌∙◌, arith, Option, Some, None}
 use Rattle.std.specs.Prelude.{IsTrue, Contains, All, map, option_and_then}
-use Rattle.std.specs.List.{list_all, list_any}
+use Rattle.std.specs.List.{list_any}
 use Rattle.vk_model.specs.Trace.Order.{Front, after_entry, order_from, host}
 use Rattle.vk_model.proofs.Trace.Growing.{entry_grows, order_grows}
-use Rattle.std.proofs.lemmas.Bool.{leb-false, eqb-true, false_from_ne_true, or_parts, and_parts}
+use Rattle.std.proofs.lemmas.Bool.{leb-false, eqb-true, false_from_ne_true, or_parts}
 use Rattle.vk_model.specs.declared.rule.Rule.TheVariants as rule
 use Rattle.vk_model.specs.Trace.Point.{Past, Point, Action, Host, Wait, Run, Signal}
 use Rattle.vk_model.specs.Rules.Table.{breaks}
@@ -21,9 +21,8 @@ use Rattle.vk_model.specs.declared.resource.ImageInfo.{ImageInfo}
 use Rattle.vk_model.specs.Trace.Image.{image_size}
 use Rattle.vk_model.specs.declared.resource.Place.{Place}
 use Rattle.vk_model.specs.declared.resource.Place.TheVariants as place
-use Rattle.vk_model.specs.Trace.Supported.{is_supported, is_supported_action}
 use Rattle.vk_device.specs.Inner.Clean.{IsClean}
-use Rattle.vk_device.specs.Inner.Fits.{FitsAction, AllFit}
+use Rattle.vk_device.specs.Inner.Fits.{FitsAction, FitsHost, AllFit}
 use Rattle.vk_resources.specs.Fits.{FitsFill, FitsCommand, IsUnused, FitsPlace, FitsRange, FitsLength, FitsEntry}
 use Rattle.vk_transfer.specs.Copies.{FitsBuffers}
 use Rattle.vk_model.specs.Basics.{holds}
@@ -212,29 +211,29 @@ image_point past p i m is fresh none = record {
 memory_point : (past : Past) (p : Point) (i : ℕ) (m : MemoryInfo) → p.action ≡ Host (entry.Memory i m) → IsFresh past → BreaksNone past p → FitsEntry past (entry.Memory i m)
 memory_point past p i m is fresh none = (new_id past p none fresh (entry.Memory i m) i is refl, not_zero m.size (or_parts (m.size == 0) (nat_lt 67108864 m.size) (memory_size past p none (entry.Memory i m) is)).0)
 
-fits_entry : (past : Past) (p : Point) (x : Entry) → p.action ≡ Host x → is_supported_action (Host x) ≡ true → IsFresh past → BreaksNone past p → FitsEntry past x
-fits_entry past p (entry.Buffer i b) is supported fresh none = buffer_point past p i b is fresh none
-fits_entry past p (entry.Memory i m) is supported fresh none = memory_point past p i m is fresh none
-fits_entry past p (entry.Free m) is supported fresh none = free_point past p m is none
-fits_entry past p (entry.Destroy r) is supported fresh none = destroy_point past p r is none
-fits_entry past p (entry.Map b) is supported fresh none = tt
-fits_entry past p (entry.Unmap b) is supported fresh none = tt
-fits_entry past p (entry.Write b o bytes) is supported fresh none = write_point past p b o bytes is none
-fits_entry past p (entry.Read b o n) is supported fresh none = read_point past p b o n is none
-fits_entry past p (entry.Semaphore i v) is supported fresh none = new_id past p none fresh (entry.Semaphore i v) i is refl
-fits_entry past p (entry.Event i) is supported fresh none = new_id past p none fresh (entry.Event i) i is refl
-fits_entry past p (entry.Signal s v) is supported fresh none = tt
-fits_entry past p (entry.Wait ws) is supported fresh none = tt
-fits_entry past p (entry.Submit q bs) is supported fresh none = tt
-fits_entry past p (entry.Pool i x) is supported fresh none = pool_point past p i x is (new_id past p none fresh (entry.Pool i x) i is refl) none
-fits_entry past p (entry.Image i x) is supported fresh none = image_point past p i x is fresh none
-fits_entry past p (entry.DropPool q) is supported fresh none = drop_point past p q is none
-fits_entry past p (entry.Flush b o n) is supported fresh none = flush_point past p b o n is none
-fits_entry past p (entry.Invalidate b o n) is supported fresh none = invalidate_point past p b o n is none
-fits_entry past p (entry.Defrag i q n m) is supported fresh none = absurd cc
-fits_entry past p (entry.Pass d) is supported fresh none = absurd cc
-fits_entry past p (entry.EndPass d kept lost) is supported fresh none = absurd cc
-fits_entry past p (entry.EndDefrag d) is supported fresh none = absurd cc
+fits_entry : (past : Past) (p : Point) (x : Entry) → p.action ≡ Host x → IsFresh past → BreaksNone past p → FitsHost past x
+fits_entry past p (entry.Buffer i b) is fresh none = buffer_point past p i b is fresh none
+fits_entry past p (entry.Memory i m) is fresh none = memory_point past p i m is fresh none
+fits_entry past p (entry.Free m) is fresh none = free_point past p m is none
+fits_entry past p (entry.Destroy r) is fresh none = destroy_point past p r is none
+fits_entry past p (entry.Map b) is fresh none = tt
+fits_entry past p (entry.Unmap b) is fresh none = tt
+fits_entry past p (entry.Write b o bytes) is fresh none = write_point past p b o bytes is none
+fits_entry past p (entry.Read b o n) is fresh none = read_point past p b o n is none
+fits_entry past p (entry.Semaphore i v) is fresh none = new_id past p none fresh (entry.Semaphore i v) i is refl
+fits_entry past p (entry.Event i) is fresh none = new_id past p none fresh (entry.Event i) i is refl
+fits_entry past p (entry.Signal s v) is fresh none = tt
+fits_entry past p (entry.Wait ws) is fresh none = tt
+fits_entry past p (entry.Submit q bs) is fresh none = tt
+fits_entry past p (entry.Pool i x) is fresh none = pool_point past p i x is (new_id past p none fresh (entry.Pool i x) i is refl) none
+fits_entry past p (entry.Image i x) is fresh none = image_point past p i x is fresh none
+fits_entry past p (entry.DropPool q) is fresh none = drop_point past p q is none
+fits_entry past p (entry.Flush b o n) is fresh none = flush_point past p b o n is none
+fits_entry past p (entry.Invalidate b o n) is fresh none = invalidate_point past p b o n is none
+fits_entry past p (entry.Defrag i q n m) is fresh none = new_id past p none fresh (entry.Defrag i q n m) i is refl
+fits_entry past p (entry.Pass d) is fresh none = tt
+fits_entry past p (entry.EndPass d kept lost) is fresh none = tt
+fits_entry past p (entry.EndDefrag d) is fresh none = tt
 
 -- ---- updates and copies
 
@@ -265,27 +264,21 @@ fits_command past p (cmd.CopyImage a l b m gs) is new none = copy_image_point pa
 fits_command past p (cmd.Set v ms) is new none = tt
 fits_command past p (cmd.Await v ms) is new none = tt
 
-fits_action : (past : Past) (p : Point) (d : Action) → p.action ≡ d → is_supported_action d ≡ true → IsNew past → IsFresh past → BreaksNone past p → FitsAction past d
-fits_action past p (Host x) is supported new fresh none = fits_entry past p x is supported fresh none
-fits_action past p (Run c) is supported new fresh none = fits_command past p c is new none
-fits_action past p (Wait s) is supported new fresh none = tt
-fits_action past p (Signal s) is supported new fresh none = tt
+fits_action : (past : Past) (p : Point) (d : Action) → p.action ≡ d → IsNew past → IsFresh past → BreaksNone past p → FitsAction past d
+fits_action past p (Host x) is new fresh none = fits_entry past p x is fresh none
+fits_action past p (Run c) is new fresh none = fits_command past p c is new none
+fits_action past p (Wait s) is new fresh none = tt
+fits_action past p (Signal s) is new fresh none = tt
 
 -- ---- what is older is clean too
 
 clean_older : (past : Past) (p : Point) → IsClean (p ∷ past) → IsClean past
-unfolding is_supported
-clean_older past p clean = record {
-  sound = λ before q r comes. clean.sound before q r (older comes);
-  supported = (and_parts (is_supported_action p.action) (list_all (λ q. is_supported_action q.action) past) clean.supported).1;
-}
+clean_older past p clean = record { sound = λ before q r comes. clean.sound before q r (older comes) }
 
 -- every point of a clean past fits
 pub fits_clean : (past : Past) → IsClean past → AllFit past
-unfolding is_supported
 fits_clean [] clean = tt
-fits_clean (p ∷ past) clean =
-    (fits_action past p p.action refl (and_parts (is_supported_action p.action) (list_all (λ q. is_supported_action q.action) past) clean.supported).0 (new_clean past (clean_older past p clean)) (fresh_clean past (clean_older past p clean)) (breaks_none past p clean), fits_clean past (clean_older past p clean))
+fits_clean (p ∷ past) clean = let before = clean_older past p clean in (fits_action past p p.action refl (new_clean past before) (fresh_clean past before) (breaks_none past p clean), fits_clean past before)
 
 -- what comes before others, which may be batches that are started
 pub clean_newer : (newer past : Past) → IsClean (newer ++ past) → IsClean past

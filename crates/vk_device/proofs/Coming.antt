@@ -15,7 +15,7 @@ use Rattle.vk_model.specs.declared.resource.BufferInfo.{BufferInfo}
 use Rattle.vk_model.specs.Basics.{holds, among, below, byte_of}
 use Rattle.vk_model.specs.Laws.{OrderIsOrdered, OrderHasEntries, NoFaultIsSound}
 use Rattle.vk_model.specs.Rules.Fault.{IsUnbroken}
-use Rattle.vk_model.specs.Run.Runs.{Name, is_done, Step, Stage, Apply, applied}
+use Rattle.vk_model.specs.Run.Runs.{Name, is_done, Step, Stage, Apply, applied, parts_left}
 use Rattle.vk_model.specs.Trace.Objects.{made_by, ended_by, live, buffer_in, image_in}
 use Rattle.vk_model.specs.Trace.Order.{Front, host, after_entry, order_from, order}
 use Rattle.vk_model.specs.Trace.Point.{Past, Point, Action, Run, entries}
@@ -62,6 +62,9 @@ use Rattle.vk_device.specs.Inner.Clean.{IsClean}
 use Rattle.vk_device.specs.Inner.Fits.{FitsAction, AllFit}
 use Rattle.vk_device.specs.Inner.Ready.{HostDone, CommandFits, PrepareReady}
 use Rattle.vk_device.specs.Led.{Led, AreWorks, IsSoundTrace}
+use Rattle.vk_device.specs.Passes.{HasPasses, parts_begun}
+use Rattle.vk_device.proofs.KeptPasses.{passes_stay}
+use Rattle.vk_device.proofs.PassPasts.{no_passes}
 use Rattle.vk_device.proofs.Clean.{fits_clean, clean_newer}
 use Rattle.vk_device.proofs.Limits.{below_limit}
 
@@ -163,7 +166,6 @@ pub record IsComing (t : List Entry) (e : ℕ) (x : Entry) (f : Front) (r : Held
 pub clean_trace : (t : List Entry) → NoFaultIsSound → IsSoundTrace t → IsClean (order t)
 clean_trace t law sound = record {
   sound = λ before p r comes broke. (law t).0 sound.faultless before p r (comes, broke);
-  supported = sound.supported;
 }
 
 pub applied_front : (s : Stage) (n : ℕ) (x : Entry) (xs : List Entry) → (applied s n x xs).front ≡ after_entry s.count x s.front
@@ -171,7 +173,7 @@ applied_front s n (entry.Pass d) xs = refl
 applied_front s n (entry.EndPass d kept lost) xs = refl
 applied_front s n _ xs = refl
 
-applied_count : (s : Stage) (n : ℕ) (x : Entry) (xs : List Entry) → (applied s n x xs).count ≡ s.count + 1
+pub applied_count : (s : Stage) (n : ℕ) (x : Entry) (xs : List Entry) → (applied s n x xs).count ≡ s.count + 1
 applied_count s n (entry.Pass d) xs = refl
 applied_count s n (entry.EndPass d kept lost) xs = refl
 applied_count s n _ xs = refl
@@ -181,26 +183,21 @@ applied_done s n (entry.Pass d) xs = refl
 applied_done s n (entry.EndPass d kept lost) xs = refl
 applied_done s n _ xs = refl
 
-applied_parts : (s : Stage) (x : Entry) (xs : List Entry) → s.parts ≡ 0 → (applied s 0 x xs).parts ≡ 0
-applied_parts s (entry.Pass d) xs none = refl
-applied_parts s (entry.EndPass d kept lost) xs none = refl
-applied_parts s _ xs none = none
-
 pub coming : (t : List Entry) (steps : List Step) (s : Stage) (x : Entry) (xs : List Entry) (d : Device) → OrderIsOrdered → OrderHasEntries → NoFaultIsSound → DirectRunsAreRuns → DefinedRunsFollow → CommandsNameLive
     → {atoms : List ℕ} → HostDone t steps s x xs atoms d → IsComing t s.count x s.front d.resources
 coming t steps s x xs d ordered has sound runs following names {atoms = atoms} h =
-    let e : Stage = applied s 0 x xs in
+    let begun = parts_begun d.passes x in let e : Stage = applied s begun x xs in
     let empty : Front = record { past = []; waiting = [] } in
-    let follows_trace = following t (steps ++ Apply atoms 0 ∷ []) e (runs t _ e _ h.run) in
+    let follows_trace = following t (steps ++ Apply atoms begun ∷ []) e (runs t _ e _ h.run) in
     let rest = order_grows (0 + length follows_trace.gone) (order_from 0 empty follows_trace.gone) e.left in
     let clean = clean_trace t sound h.sound in
     let whole : order t ≡ rest.0 ++ (after_entry s.count x s.front).past =
     ap order follows_trace.whole ∙ ap (λ (f : Front). f.past) (order_append 0 empty follows_trace.gone e.left) ∙ rest.1
-    ∙ ap (λ (f : Front). rest.0 ++ f.past) (sym follows_trace.front ∙ applied_front s 0 x xs) in
+    ∙ ap (λ (f : Front). rest.0 ++ f.past) (sym follows_trace.front ∙ applied_front s begun x xs) in
     let count : suc (length (entries s.front.past)) ≡ length (reverse follows_trace.gone) =
-    ap length (sym (entries_after s.count x s.front)) ∙ ap (λ (f : Front). length (entries f.past)) (sym (applied_front s 0 x xs) ∙ follows_trace.front) ∙ ap length (has follows_trace.gone) in
+    ap length (sym (entries_after s.count x s.front)) ∙ ap (λ (f : Front). length (entries f.past)) (sym (applied_front s begun x xs) ∙ follows_trace.front) ∙ ap length (has follows_trace.gone) in
     let least = below_limit s.count x s.front (clean_newer rest.0 (after_entry s.count x s.front).past (subst (λ (l : Past). IsClean l) whole clean)) in
-    let gone : s.count + 1 ≡ length follows_trace.gone = sym (applied_count s 0 x xs) ∙ follows_trace.counted in
+    let gone : s.count + 1 ≡ length follows_trace.gone = sym (applied_count s begun x xs) ∙ follows_trace.counted in
     let long = length-reverse follows_trace.gone in
     record {
       newer = rest.0;
@@ -211,13 +208,13 @@ coming t steps s x xs d ordered has sound runs following names {atoms = atoms} h
       ordered = ordered t;
       matches = h.matches;
       alive = λ n c at act new some i kind asked.
-          let fronts = applied_front s 0 x xs in
+          let fronts = applied_front s begun x xs in
           let unrun : is_done e.done (n.number, 0) ≡ false = false_from_ne_true (is_done e.done (n.number, 0))
-          (λ ran. let low = h.offers.known (n.number, 0) (subst (λ (done : List Name). IsTrue (is_done done (n.number, 0))) (applied_done s 0 x xs) ran) in omega (arith, low, new)) in
+          (λ ran. let low = h.offers.known (n.number, 0) (subst (λ (done : List Name). IsTrue (is_done done (n.number, 0))) (applied_done s begun x xs) ran) in omega (arith, low, new)) in
           let there : Contains (nodes e.front.past) n = subst (λ (f : Front). Contains (nodes f.past) n) (sym fronts) at in
           let pieced : 0 < length (pieces e.front.past c) = subst (λ (f : Front). 0 < length (pieces f.past c)) (sym fronts) some in
           subst (λ (f : Front). IsTrue (holds (live f.past i) kind)) fronts
-          (names t (steps ++ Apply atoms 0 ∷ []) e n c 0 i kind (runs t _ e _ h.run) h.sound.faultless there act pieced unrun asked);
+          (names t (steps ++ Apply atoms begun ∷ []) e n c 0 i kind (runs t _ e _ h.run) h.sound.faultless there act pieced unrun asked);
     }
 
 module _ (t : List Entry) (e : ℕ) (x : Entry) (f : Front) (r : Held) (h : IsComing t e x f r) (points : List AnyPoint) (are : past_after f.past points ≡ (after_entry e x f).past) where
@@ -310,28 +307,32 @@ arrived d s x points counts are = are ∙ ap (λ (n : ℕ). (after_entry n x s.f
 
 pub advanced : (t : List Entry) (steps : List Step) (s : Stage) (x : Entry) (xs : List Entry) (d new : Device) (w : Waiting) (points : List AnyPoint) (i : ℕ) (atoms : List ℕ) → HostDone t steps s x xs atoms d → new.resources ≡ d.resources → new.passes ≡ d.passes
     → new.count ≡ d.count + 1 → new.waiting ≡ w → IsWaiting w (d.count + 1) (after_entry d.count x s.front) → past_after s.front.past points ≡ (after_entry d.count x s.front).past → length points ≤ i
-    → AreWorks new.works.items (past_after s.front.past (take i points)) → IsOffers new.offers (past_after s.front.past (take i points)) s.done → Led t (steps ++ Apply atoms 0 ∷ []) (applied s 0 x xs) new
-advanced t steps s x xs d new w points i atoms h same passes counts waiting waits are all works offers = record {
+    → AreWorks new.works.items (past_after s.front.past (take i points)) → IsOffers new.offers (past_after s.front.past (take i points)) s.done → Led t (steps ++ Apply atoms (parts_begun new.passes x) ∷ []) (applied s (parts_begun new.passes x) x xs) new
+advanced t steps s x xs d new w points i atoms h same passes counts waiting waits are all works offers = subst (λ (p : Passing). Led t (steps ++ Apply atoms (parts_begun p x) ∷ []) (applied s (parts_begun p x) x xs) new) (sym passes) record {
   memory = h.memory;
   run = h.run;
   holds = rw same h.holds;
-  matches = subst (λ (f : Front). Stands f.past new.resources) (sym (applied_front s 0 x xs))
-      (rw same (let g = entry_grows s.count x s.front in stands_stay (host s.count x ∷ s.front.past) (after_entry s.count x s.front).past d.resources (same_entries (host s.count x ∷ s.front.past) (after_entry s.count x s.front).past g) h.matches));
-  works = subst (λ (f : Front). AreWorks new.works.items f.past) (sym (applied_front s 0 x xs))
+  matches = subst (λ (f : Front). Stands f.past new.resources) (sym (applied_front s n x xs)) (rw same (stands_stay (host s.count x ∷ s.front.past) (after_entry s.count x s.front).past d.resources all_entries h.matches));
+  works = subst (λ (f : Front). AreWorks new.works.items f.past) (sym (applied_front s n x xs))
       (subst (λ (l : Past). AreWorks new.works.items l) (ap (λ (l : List AnyPoint). past_after s.front.past l) (take_all i points all) ∙ arrived d s x points h.counts are) works);
-  waits = rw (waiting, counts) (subst (λ (f : Front). IsWaiting w (d.count + 1) f) (ap (λ (n : ℕ). after_entry n x s.front) h.counts ∙ sym (applied_front s 0 x xs)) waits);
-  counts = counts ∙ ap (λ (n : ℕ). n + 1) h.counts ∙ sym (applied_count s 0 x xs);
-  offers = subst (λ (f : Front). IsOffers new.offers f.past (applied s 0 x xs).done) (sym (applied_front s 0 x xs))
-      (subst (λ (done : List Name). IsOffers new.offers (after_entry s.count x s.front).past done) (sym (applied_done s 0 x xs))
+  waits = rw (waiting, counts) (subst (λ (f : Front). IsWaiting w (d.count + 1) f) (ap (λ (n : ℕ). after_entry n x s.front) h.counts ∙ sym (applied_front s n x xs)) waits);
+  counts = counts ∙ ap (λ (n : ℕ). n + 1) h.counts ∙ sym (applied_count s n x xs);
+  offers = subst (λ (f : Front). IsOffers new.offers f.past (applied s n x xs).done) (sym (applied_front s n x xs))
+      (subst (λ (done : List Name). IsOffers new.offers (after_entry s.count x s.front).past done) (sym (applied_done s n x xs))
       (subst (λ (l : Past). IsOffers new.offers l s.done) (ap (λ (l : List AnyPoint). past_after s.front.past l) (take_all i points all) ∙ arrived d s x points h.counts are) offers));
-  no_parts = applied_parts s x xs h.no_parts;
-  passing = rw (same, passes) h.passing;
-  none_begun = passes ∙ h.none_begun;
+  passes = subst (λ (f : Front). HasPasses (parts_left (applied s n x xs)) f.past new.passes new.resources) (sym (applied_front s n x xs))
+      (rw (same, passes) (passes_stay (parts_left (applied s n x xs)) (host s.count x ∷ s.front.past) (after_entry s.count x s.front).past d.passes d.resources all_entries h.passes));
 }
+  where
+    n : ℕ
+    n = parts_begun d.passes x
+
+    all_entries : entries (after_entry s.count x s.front).past ≡ entries (host s.count x ∷ s.front.past)
+    all_entries = let g = entry_grows s.count x s.front in same_entries (host s.count x ∷ s.front.past) (after_entry s.count x s.front).past g
 
 -- ---- a new device
 
-pub nothing_passing : (p : Passing) → p ≡ none_begun → (b : Backed) → b ≡ nothing_backed → ArePassing p b
+nothing_passing : (p : Passing) → p ≡ none_begun → (b : Backed) → b ≡ nothing_backed → ArePassing p b
 nothing_passing p none b bare = rw (none, bare) none_passing
   where
     none_passing : ArePassing none_begun nothing_backed
@@ -342,6 +343,15 @@ nothing_passing p none b bare = rw (none, bare) none_passing
       planned = λ n. record { each = λ k d lt. absurd (omega (arith, lt)); once = tt; only = λ i place asked held. absurd (let f = held.live in cc) };
       movers = record { long = refl; each = λ k lt. absurd (omega (arith, lt)) };
     }
+
+pub nothing_begun : (p : Passing) → p ≡ none_begun → (r : Held) → r.backed ≡ nothing_backed → HasPasses [] [] p r
+nothing_begun p none r bare = rw none (record {
+  passing = nothing_passing none_begun refl r.backed bare;
+  matches = no_passes r.backed;
+  left = refl;
+  agree = λ i at from to lt. absurd (omega (arith, lt));
+  clean = λ c there moves. absurd cc;
+})
 
 pub nothing_held : (r : Held) → r.backed ≡ nothing_backed → r.resources ≡ [] → r.shapes ≡ [] → Stands [] r
 nothing_held r backed resources shapes = record { live = nothing_live }

@@ -43,7 +43,7 @@ pub unbroken : NoFaultIsSound → (t : List Entry) → IsSoundTrace t → IsUnbr
 unbroken law t sound = (law t).0 sound.faultless
 
 pub clean : NoFaultIsSound → (t : List Entry) → IsSoundTrace t → IsClean (order t)
-clean law t sound = record { sound = λ before p r comes broken. unbroken law t sound before p r (comes, broken); supported = sound.supported }
+clean law t sound = record { sound = λ before p r comes broken. unbroken law t sound before p r (comes, broken) }
 
 module _ (law : NoFaultIsSound) (ordered : OrderIsOrdered) (t : List Entry) (s : Stage) (x : Entry) (xs : List Entry) (st : FollowsTrace t s) (left : s.left ≡ x ∷ xs) (sound : IsSoundTrace t) where
   pub next_unbroken : IsUnbroken (past_with s x)

@@ -8,6 +8,17 @@ mod Staying
 mod Sources
 mod Running
 mod Picking
+mod PassStates
+mod PassRules
+mod PassPasts
+mod PassStands
+mod PassBytes
+mod PassCaches
+mod KeptPasses
+mod Copying
+mod PlainEntries
+mod Changing
+mod PassParts
 mod Coming
 mod Touching
 mod Entering

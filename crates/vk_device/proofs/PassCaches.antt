@@ -18,7 +18,7 @@ use Rattle.vk_model.proofs.Lists.Truths.{clash}
 use Rattle.vk_backing.specs.Passing.{Passing, ArePassing}
 use Rattle.vk_resources.specs.declared.resources.Placed.{Placed}
 use Rattle.vk_resources.specs.Held.{Held, IsConsistent, IsThere, placed_in, placed, shape_in, shape_of, host_at, holding_in, is_dirty, byte_at, place_in}
-use Rattle.vk_resources.specs.Done.{HoldsNoneNew, LeavesCells, TurnsOver, moved_by}
+use Rattle.vk_resources.specs.Done.{HoldsNoneNew, LeavesCells, TurnsOver}
 use Rattle.vk_resources.specs.Matches.{Stands}
 use Rattle.vk_resources.specs.PassSteps.{AreClean}
 use Rattle.vk_device.specs.Inner.Clean.{IsClean}
@@ -116,7 +116,7 @@ entry_clean e x past s t p of clean stands consistent are m leaves fresh all c t
     old : IsThere s c → is_dirty (host_at t c) ≡ false
     old was =
         let after = leaves c (cell_at s c) was there (record { held = refl; region = refl }) in
-        ap is_dirty (sym after.held) ∙ entry_unsoiled past e x of none (moved_by s x t) c away (cell_at s c) (all c was moves)
+        ap is_dirty (sym after.held) ∙ entry_unsoiled past e x of none [] c away (cell_at s c) (all c was moves)
 
     go : (o : Option ℕ) → place_in (shape_of s (resource_at c)) (placed s (resource_at c)) c ≡ o → is_dirty (host_at t c) ≡ false
     go None e = ap is_dirty (fresh c there (λ was. let no : false ≡ true = subst (λ (o : Option ℕ). IsSome o) e was in absurd cc))

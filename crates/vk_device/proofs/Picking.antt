@@ -1,22 +1,27 @@
 -- What a scheduler picks before an entry, turn by turn.
-use Rattle.std.proofs.Common.{◌≡◌, ℕ, zero, suc, ◌+◌, ◌<◌, ◌≤◌, ◌%◌, List, [], ◌∷◌, ◌++◌, map, length, Bool, true, false, not, IsTrue, refl, ap, sym, ◌∙◌, subst, arith, append-nil, append_assoc, length-append, nat_le, Option, Some, None}
+use Rattle.std.proofs.Common.{◌≡◌, ℕ, zero, suc, ◌+◌, ◌<◌, ◌≤◌, ◌%◌, List, [], ◌∷◌, ◌++◌, map, length, Bool, true, false, not, ◌||◌, eq-eqb, ◌==◌, IsTrue, refl, ap, sym, ◌∙◌, subst, arith, append-nil, append_assoc, length-append, nat_le, Option, Some, None}
 use Rattle.std.proofs.lemmas.List.{length-map}
+use Rattle.std.proofs.lemmas.List.FromFn.{length-range_with_len}
+use Rattle.std.proofs.lemmas.List.Sums.{length-filter, count_by-le-length}
 use Rattle.std.proofs.lemmas.Option.{slice_get-map}
 use Rattle.std.specs.Prelude.{Contains, slice_get, option_map, if◌then◌else◌}
-use Rattle.std.specs.List.{filter, sum_by}
+use Rattle.std.specs.List.{sum_by}
 use Rattle.vk_model.specs.declared.entry.Entry.{Entry}
 use Rattle.vk_model.specs.Basics.{below, among}
-use Rattle.vk_model.specs.Run.Runs.{Name, Step, Stage, RunPiece, CopyPart, offered, may_go}
+use Rattle.vk_model.proofs.Lists.Members.{filtered}
+use Rattle.vk_model.specs.Run.Runs.{Name, Step, Stage, RunPiece, CopyPart, offered, parts_left, may_go}
 use Rattle.vk_model.specs.Run.Picks.{Choice, Take, Go, Picked, stepped, options, pick_of, held_after, picks, before_entry, most_picks}
 use Rattle.vk_sync.specs.declared.board.Command.{Command}
 use Rattle.vk_sync.specs.declared.ready.Piece.{Piece}
 use Rattle.vk_sync.specs.Ready.{ready}
 use Rattle.vk_offers.specs.IsOffers.{name_of, host_node}
-use Rattle.vk_offers.proofs.PiecesLeft.{pieces_left, one_less, ready_offered}
+use Rattle.vk_offers.specs.declared.offers.Offers.{Offers}
+use Rattle.vk_offers.proofs.PiecesLeft.{pieces_left, one_less, one_fewer_kept, ready_offered}
 use Rattle.vk_laws.specs.DirectRuns.{DirectRunsAreRuns}
 use Rattle.vk_laws.specs.PickedRuns.{OptionsAreThere}
 use Rattle.vk_device.specs.declared.device.Device.{Device}
-use Rattle.vk_device.specs.Led.{Led, IsBefore, MayRun, HasRun}
+use Rattle.vk_backing.specs.Passing as backing
+use Rattle.vk_device.specs.Led.{Led, IsBefore, MayRun, HasRun, MayCopy, HasCopied}
 use Rattle.vk_device.specs.Inner.Ready.{Waited, MayAsk, Goes, Picks, option_count}
 
 -- ---- lists
@@ -25,6 +30,11 @@ get_left : {X : Type 0} (xs ys : List X) (j : ℕ) (x : X) → slice_get xs j �
 get_left [] ys j x e = absurd cc
 get_left (z ∷ xs) ys zero x e = e
 get_left (z ∷ xs) ys (suc j) x e = get_left xs ys j x e
+
+get_right : {X : Type 0} (xs ys : List X) (j place : ℕ) (x : X) → place ≡ length xs + j → slice_get ys j ≡ Some x → slice_get (xs ++ ys) place ≡ Some x
+get_right [] ys j place x is e = let same : j ≡ place = omega (arith, is) in subst (λ (k : ℕ). slice_get ys k ≡ Some x) same e
+get_right (z ∷ xs) ys j zero x is e = absurd (omega (arith, is))
+get_right (z ∷ xs) ys j (suc k) x is e = get_right xs ys j k x (omega (arith, is)) e
 
 get_seam : {X : Type 0} (xs : List X) (x : X) (j : ℕ) → j ≡ length xs → slice_get (xs ++ x ∷ []) j ≡ Some x
 get_seam [] x zero e = refl
@@ -35,35 +45,54 @@ get_seam (z ∷ xs) x (suc j) e = get_seam xs x j (omega (arith, e))
 -- ---- the options of a turn
 
 module _ (answer : List ℕ → ℕ → ℕ) (next : List ℕ → ℕ → List ℕ) where
-  module _ (s : Stage) (x : Entry) (no_parts : s.parts ≡ 0) where
+  module _ (s : Stage) (x : Entry) where
     abbrev pieces_of : List Choice
     pieces_of = map (λ n. Take (RunPiece n)) (offered s.front.past s.done)
+
+    abbrev parts_of : List Choice
+    parts_of = map (λ k. Take (CopyPart k)) (parts_left s)
 
     abbrev entry_of : Bool → List Choice
     entry_of goes = if goes then Go ∷ [] else []
 
-    options_are : options answer next s x ≡ pieces_of ++ entry_of (may_go s x)
-    options_are =
-        ap (λ (p : ℕ). pieces_of ++ map (λ k. Take (CopyPart k)) (filter (λ k. not (among k s.copied)) (below p)) ++ entry_of (may_go s x)) no_parts
-        ∙ ap (λ (cs : List Choice). cs ++ entry_of (may_go s x)) (append-nil pieces_of)
+    -- how many steps there are to take before the entry
+    abbrev pub steps_at : ℕ
+    steps_at = length (offered s.front.past s.done) + length (parts_left s)
 
-    turn_length : length (options answer next s x) ≡ option_count (length (offered s.front.past s.done)) (may_go s x)
-    turn_length = ap (λ (cs : List Choice). length cs) options_are ∙ length-append pieces_of (entry_of (may_go s x)) ∙ go (may_go s x)
+    options_are : options answer next s x ≡ (pieces_of ++ parts_of) ++ entry_of (may_go s x)
+    options_are = refl
+
+    steps_length : length (pieces_of ++ parts_of) ≡ steps_at
+    steps_length =
+        let all = length-append pieces_of parts_of in
+        let pieces = length-map (offered s.front.past s.done) (λ n. Take (RunPiece n)) in
+        let parts = length-map (parts_left s) (λ k. Take (CopyPart k)) in
+        omega (arith, all, pieces, parts)
+
+    turn_length : length (options answer next s x) ≡ option_count steps_at (may_go s x)
+    turn_length = ap (λ (cs : List Choice). length cs) options_are ∙ length-append (pieces_of ++ parts_of) (entry_of (may_go s x)) ∙ go (may_go s x)
       where
-        go : (b : Bool) → length pieces_of + length (entry_of b) ≡ option_count (length (offered s.front.past s.done)) b
-        go true = let same = length-map (offered s.front.past s.done) (λ n. Take (RunPiece n)) in omega (arith, same)
-        go false = let same = length-map (offered s.front.past s.done) (λ n. Take (RunPiece n)) in omega (arith, same)
+        go : (b : Bool) → length (pieces_of ++ parts_of) + length (entry_of b) ≡ option_count steps_at b
+        go true = let same = steps_length in omega (arith, same)
+        go false = let same = steps_length in omega (arith, same)
 
     turn_piece : (place : ℕ) (name : Name) → slice_get (offered s.front.past s.done) place ≡ Some name → slice_get (options answer next s x) place ≡ Some (Take (RunPiece name))
     turn_piece place name at =
         ap (λ (cs : List Choice). slice_get cs place) options_are
-        ∙ get_left pieces_of (entry_of (may_go s x)) place (Take (RunPiece name))
-        (slice_get-map (λ n. Take (RunPiece n)) (offered s.front.past s.done) place ∙ ap (λ (o : Option Name). option_map (λ n. Take (RunPiece n)) o) at)
+        ∙ get_left (pieces_of ++ parts_of) (entry_of (may_go s x)) place (Take (RunPiece name))
+        (get_left pieces_of parts_of place (Take (RunPiece name)) (slice_get-map (λ n. Take (RunPiece n)) (offered s.front.past s.done) place ∙ ap (λ (o : Option Name). option_map (λ n. Take (RunPiece n)) o) at))
 
-    turn_go : may_go s x ≡ true → (place : ℕ) → place ≡ length (offered s.front.past s.done) → slice_get (options answer next s x) place ≡ Some Go
+    turn_part : (place j part : ℕ) → place ≡ length (offered s.front.past s.done) + j → slice_get (parts_left s) j ≡ Some part → slice_get (options answer next s x) place ≡ Some (Take (CopyPart part))
+    turn_part place j part is at =
+        ap (λ (cs : List Choice). slice_get cs place) options_are
+        ∙ get_left (pieces_of ++ parts_of) (entry_of (may_go s x)) place (Take (CopyPart part))
+        (get_right pieces_of parts_of j place (Take (CopyPart part)) (is ∙ ap (λ (n : ℕ). n + j) (sym (length-map (offered s.front.past s.done) (λ n. Take (RunPiece n)))))
+        (slice_get-map (λ k. Take (CopyPart k)) (parts_left s) j ∙ ap (λ (o : Option ℕ). option_map (λ k. Take (CopyPart k)) o) at))
+
+    turn_go : may_go s x ≡ true → (place : ℕ) → place ≡ steps_at → slice_get (options answer next s x) place ≡ Some Go
     turn_go may place at =
-        ap (λ (cs : List Choice). slice_get cs place) (options_are ∙ ap (λ (b : Bool). pieces_of ++ entry_of b) may)
-        ∙ get_seam pieces_of Go place (at ∙ sym (length-map (offered s.front.past s.done) (λ n. Take (RunPiece n))))
+        ap (λ (cs : List Choice). slice_get cs place) (options_are ∙ ap (λ (b : Bool). (pieces_of ++ parts_of) ++ entry_of b) may)
+        ∙ get_seam (pieces_of ++ parts_of) Go place (at ∙ sym steps_length)
 
   -- ---- what is picked
 
@@ -82,11 +111,11 @@ module _ (answer : List ℕ → ℕ → ℕ) (next : List ℕ → ℕ → List �
   picks_are : (fuel : ℕ) (s : Stage) (held : List ℕ) (x : Entry) → picks answer next (suc fuel) s held x ≡ after_choice fuel s held x (slice_get (options answer next s x) (pick_of answer next held (length (options answer next s x))))
   picks_are fuel s held x = refl
 
-  picks_piece : (fuel : ℕ) (s : Stage) (held : List ℕ) (x : Entry) (name : Name) (n : ℕ) → n ≡ length (options answer next s x) → slice_get (options answer next s x) (pick_of answer next held n) ≡ Some (Take (RunPiece name))
-      → picks answer next (suc fuel) s held x ≡ onward (RunPiece name ∷ []) (picks answer next fuel (record s { done = name ∷ s.done }) (held_after answer next held n) x)
-  picks_piece fuel s held x name n size at =
+  picks_step : (fuel : ℕ) (s : Stage) (held : List ℕ) (x : Entry) (step : Step) (n : ℕ) → n ≡ length (options answer next s x) → slice_get (options answer next s x) (pick_of answer next held n) ≡ Some (Take step)
+      → picks answer next (suc fuel) s held x ≡ onward (step ∷ []) (picks answer next fuel (stepped step s) (held_after answer next held n) x)
+  picks_step fuel s held x step n size at =
       picks_are fuel s held x ∙ ap (λ (o : Option Choice). after_choice fuel s held x o) (ap (λ (m : ℕ). slice_get (options answer next s x) (pick_of answer next held m)) (sym size) ∙ at)
-      ∙ ap (λ (m : ℕ). onward (RunPiece name ∷ []) (picks answer next fuel (record s { done = name ∷ s.done }) (held_after answer next held m) x)) (sym size)
+      ∙ ap (λ (m : ℕ). onward (step ∷ []) (picks answer next fuel (stepped step s) (held_after answer next held m) x)) (sym size)
 
   picks_entry : (fuel : ℕ) (s : Stage) (held : List ℕ) (x : Entry) (n : ℕ) → n ≡ length (options answer next s x) → slice_get (options answer next s x) (pick_of answer next held n) ≡ Some Go
       → picks answer next (suc fuel) s held x ≡ record { steps = []; stage = s; held = held_after answer next held n }
@@ -107,15 +136,28 @@ module _ (answer : List ℕ → ℕ → ℕ) (next : List ℕ → ℕ → List �
 abbrev pub left_in : List Command → ℕ
 left_in cs = sum_by (λ c. length c.left) cs
 
+-- a pass has no more parts left than it has
+few_parts : (s : Stage) → length (parts_left s) ≤ s.parts
+few_parts s =
+    let kept = length-filter (λ k. not (among k s.copied)) (below s.parts) in
+    let fewer = count_by-le-length (λ k. not (among k s.copied)) (below s.parts) in
+    let all = length-range_with_len 0 s.parts in
+    omega (arith, kept, fewer, all)
+
+-- how many steps are left to a device before an entry
+abbrev pub left_on : Device → ℕ
+left_on d = left_in d.offers.ready + length (backing.parts_left d.passes)
+
 module _ (answer : List ℕ → ℕ → ℕ) (next : List ℕ → ℕ → List ℕ) where
   -- before a turn: what was picked so far has led here, and with what is picked from here on it is all that is picked
   pub record Turn (t : List Entry) (steps : List Step) (s : Stage) (first : List ℕ) (x : Entry) (d : Device) (held : List ℕ) : Type 0 where
     pub so_far : List Step
     pub done : List Name
+    pub copied : List ℕ
     pub fuel : ℕ
-    pub led : Led t (steps ++ so_far) (record s { done = done }) d
-    pub enough : left_in d.offers.ready < fuel
-    pub whole : before_entry answer next s first x ≡ onward answer next so_far (picks answer next fuel (record s { done = done }) held x)
+    pub led : Led t (steps ++ so_far) (record s { done = done; copied = copied }) d
+    pub enough : left_on d < fuel
+    pub whole : before_entry answer next s first x ≡ onward answer next so_far (picks answer next fuel (record s { done = done; copied = copied }) held x)
 
   -- whatever run has led to the device before
   abbrev pub Turns : Device → List ℕ → Entry → Device → List ℕ → Type 0
@@ -125,15 +167,16 @@ module _ (answer : List ℕ → ℕ → ℕ) (next : List ℕ → ℕ → List �
   first_turn d held x t steps s xs is = record {
     so_far = [];
     done = s.done;
+    copied = s.copied;
     fuel = most_picks answer next s;
     led = subst (λ (l : List Step). Led t l s d) (sym (append-nil steps)) is.led;
-    enough = (let few = pieces_left s.front.past s.done d.offers.ready is.led.offers.started in omega (arith, few));
+    enough = (let few = pieces_left s.front.past s.done d.offers.ready is.led.offers.started in let parts = ap (λ (l : List ℕ). length l) is.led.passes.left in let most = few_parts s in omega (arith, few, parts, most));
     whole = refl;
   }
 
   module _ (t : List Entry) (steps : List Step) (s : Stage) (xs : List Entry) (d0 : Device) (first : List ℕ) (x : Entry) (is : IsBefore t steps s x xs d0) (d : Device) (held : List ℕ) (turn : Turn t steps s first x d held) where
     abbrev now : Stage
-    now = record s { done = turn.done }
+    now = record s { done = turn.done; copied = turn.copied }
 
     -- ---- what a turn asks
 
@@ -143,6 +186,9 @@ module _ (answer : List ℕ → ℕ → ℕ) (next : List ℕ → ℕ → List �
 
     pub may_run : (piece : Piece) → Contains (ready d.offers.ready) piece → MayRun d piece
     may_run piece at = record { t = t; steps = steps ++ turn.so_far; s = now; led = turn.led; sound = is.sound; among = at }
+
+    pub may_copy : (part : ℕ) → Contains (backing.parts_left d.passes) part → MayCopy d part
+    may_copy part at = record { t = t; steps = steps ++ turn.so_far; s = now; led = turn.led; among = at }
 
     pub ready_count : length (ready d.offers.ready) ≡ length (offered s.front.past turn.done)
     ready_count = sym (length-map (ready d.offers.ready) (name_of s.front.past)) ∙ ap (λ (ns : List Name). length ns) (ready_offered s.front.past turn.done d.offers.ready turn.led.offers.started)
@@ -155,69 +201,102 @@ module _ (answer : List ℕ → ℕ → ℕ) (next : List ℕ → ℕ → List �
         let here = waited t steps s xs is in
         at s.front.past turn.done (host_node s.front.past s.count x) turn.led.offers refl here.0 ∙ sym (here.1 turn.done)
 
-    -- ---- a piece runs
+    -- ---- a step is taken
 
-    pub led_on : (piece : Piece) (d' : Device) → HasRun d d' piece → Led t ((steps ++ turn.so_far) ++ RunPiece (name_of s.front.past piece) ∷ []) (record s { done = name_of s.front.past piece ∷ turn.done }) d'
+    pub led_on : (piece : Piece) (d' : Device) → HasRun d d' piece → Led t ((steps ++ turn.so_far) ++ RunPiece (name_of s.front.past piece) ∷ []) (record s { done = name_of s.front.past piece ∷ turn.done; copied = turn.copied }) d'
     led_on piece d' ran = ran t (steps ++ turn.so_far) now turn.led is.sound
 
-    pub fewer_left : (piece : Piece) → Contains (ready d.offers.ready) piece → (d' : Device) → HasRun d d' piece → left_in d'.offers.ready < left_in d.offers.ready
-    fewer_left piece at d' ran = one_less s.front.past turn.done piece d.offers.ready turn.led.offers.started at d'.offers.ready (led_on piece d' ran).offers.started
+    pub fewer_piece : (piece : Piece) → Contains (ready d.offers.ready) piece → (d' : Device) → HasRun d d' piece → left_on d' < left_on d
+    fewer_piece piece at d' ran =
+        let led' = led_on piece d' ran in
+        let less = one_less s.front.past turn.done piece d.offers.ready turn.led.offers.started at d'.offers.ready led'.offers.started in
+        let same = ap (λ (l : List ℕ). length l) (sym turn.led.passes.left ∙ led'.passes.left) in
+        omega (arith, less, same)
+
+    pub fewer_part : (part : ℕ) → Contains (backing.parts_left d.passes) part → (d' : Device) → HasCopied d d' part → d'.offers ≡ d.offers → left_on d' < left_on d
+    fewer_part part at d' copies same =
+        let led' = copies t (steps ++ turn.so_far) now turn.led in
+        let here = filtered (λ k. not (among k turn.copied)) (below s.parts) part (subst (λ (l : List ℕ). Contains l part) (sym turn.led.passes.left) at) in
+        let less = one_fewer_kept (λ k. not (among k (part ∷ turn.copied))) (λ k. not (among k turn.copied)) still (below s.parts) part here.0 (ap (λ (b : Bool). not (b || among part turn.copied)) (eq-eqb part part refl)) here.1 in
+        let before = ap (λ (l : List ℕ). length l) turn.led.passes.left in
+        let after = ap (λ (l : List ℕ). length l) led'.passes.left in
+        let pieces = ap (λ (o : Offers). left_in o.ready) same in
+        omega (arith, less, before, after, pieces)
+      where
+        still : (k : ℕ) → not (among k (part ∷ turn.copied)) ≡ true → not (among k turn.copied) ≡ true
+        still k = go (k == part)
+          where
+            go : (b : Bool) → not (b || among k turn.copied) ≡ true → not (among k turn.copied) ≡ true
+            go true e = absurd cc
+            go false e = e
 
     -- ---- what is picked
 
-    module _ (pieces : ℕ) (counted : pieces ≡ length (offered s.front.past turn.done)) (goes : Bool) (may : goes ≡ may_go now x) (picked : ℕ) (held' : List ℕ)
-        (pick_is : picked ≡ pick_of answer next held (option_count pieces goes)) (held_is : held' ≡ held_after answer next held (option_count pieces goes)) where
-      size : option_count pieces goes ≡ length (options answer next now x)
-      size = ap (λ (n : ℕ). option_count n goes) counted ∙ ap (λ (b : Bool). option_count (length (offered s.front.past turn.done)) b) may ∙ sym (turn_length answer next now x turn.led.no_parts)
+    module _ (pieces parts : ℕ) (counted : pieces ≡ length (offered s.front.past turn.done)) (parts_are : parts ≡ length (backing.parts_left d.passes)) (goes : Bool) (may : goes ≡ may_go now x) (picked : ℕ) (held' : List ℕ)
+        (pick_is : picked ≡ pick_of answer next held (option_count (pieces + parts) goes)) (held_is : held' ≡ held_after answer next held (option_count (pieces + parts) goes)) where
+      steps_are : pieces + parts ≡ steps_at answer next now x
+      steps_are = let m = parts_are ∙ ap (λ (l : List ℕ). length l) (sym turn.led.passes.left) in omega (arith, counted, m)
+
+      size : option_count (pieces + parts) goes ≡ length (options answer next now x)
+      size = ap (λ (n : ℕ). option_count n goes) steps_are ∙ ap (λ (b : Bool). option_count (steps_at answer next now x) b) may ∙ sym (turn_length answer next now x)
 
       -- the entry is picked
-      pub entry_picked : DirectRunsAreRuns → OptionsAreThere → pieces ≤ picked → Picks answer next t steps s first x d held'
+      pub entry_picked : DirectRunsAreRuns → OptionsAreThere → pieces + parts ≤ picked → Picks answer next t steps s first x d held'
       entry_picked runs there past_all = subst Leads (sym all) (subst (λ (l : List Step). Led t (steps ++ l) now d) (sym (append-nil turn.so_far)) turn.led, held_is, sym may ∙ chosen.0)
         where
           Leads : Picked → Type 0
           Leads p = Led t (steps ++ p.steps) p.stage d × (held' ≡ p.held) × IsTrue (may_go p.stage x)
 
-          some : 0 < option_count pieces goes
+          some : 0 < option_count (pieces + parts) goes
           some = let n = there answer next t (steps ++ turn.so_far) now x xs (runs t (steps ++ turn.so_far) now _ turn.led.run) is.sound.faultless is.next in rw size n
 
-          chosen : (goes ≡ true) × (picked ≡ pieces)
-          chosen = go goes (rw pick_is (pick_below answer next held (option_count pieces goes) some))
+          chosen : (goes ≡ true) × (picked ≡ pieces + parts)
+          chosen = go goes (rw pick_is (pick_below answer next held (option_count (pieces + parts) goes) some))
             where
-              go : (b : Bool) → picked < option_count pieces b → (b ≡ true) × (picked ≡ pieces)
+              go : (b : Bool) → picked < option_count (pieces + parts) b → (b ≡ true) × (picked ≡ pieces + parts)
               go true lt = (refl, omega (arith, lt, past_all))
               go false lt = absurd (omega (arith, lt, past_all))
 
-          at : slice_get (options answer next now x) (pick_of answer next held (option_count pieces goes)) ≡ Some Go
-          at = turn_go answer next now x turn.led.no_parts (sym may ∙ chosen.0) _ (sym pick_is ∙ chosen.1 ∙ counted)
+          at : slice_get (options answer next now x) (pick_of answer next held (option_count (pieces + parts) goes)) ≡ Some Go
+          at = turn_go answer next now x (sym may ∙ chosen.0) _ (sym pick_is ∙ chosen.1 ∙ steps_are)
 
-          last : (fuel : ℕ) → left_in d.offers.ready < fuel → picks answer next fuel now held x ≡ record { steps = []; stage = now; held = held_after answer next held (option_count pieces goes) }
+          last : (fuel : ℕ) → left_on d < fuel → picks answer next fuel now held x ≡ record { steps = []; stage = now; held = held_after answer next held (option_count (pieces + parts) goes) }
           last zero lt = absurd (omega (arith, lt))
-          last (suc fuel) lt = picks_entry answer next fuel now held x (option_count pieces goes) size at
+          last (suc fuel) lt = picks_entry answer next fuel now held x (option_count (pieces + parts) goes) size at
 
-          all : before_entry answer next s first x ≡ record { steps = turn.so_far ++ []; stage = now; held = held_after answer next held (option_count pieces goes) }
+          all : before_entry answer next s first x ≡ record { steps = turn.so_far ++ []; stage = now; held = held_after answer next held (option_count (pieces + parts) goes) }
           all = turn.whole ∙ ap (λ (p : Picked). onward answer next turn.so_far p) (last turn.fuel turn.enough)
 
-      -- a piece is picked, and runs
-      module _ (piece : Piece) (named : slice_get (offered s.front.past turn.done) picked ≡ Some (name_of s.front.past piece)) (among' : Contains (ready d.offers.ready) piece) (d' : Device) (ran : HasRun d d' piece) where
-        abbrev name : Name
-        name = name_of s.front.past piece
-
-        pub next_turn : Turn t steps s first x d' held'
-        next_turn = go turn.fuel turn.enough turn.whole
+      -- a step is picked, and taken
+      module _ (step : Step) (done : List Name) (copied : List ℕ) (stage_is : stepped step now ≡ record s { done = done; copied = copied }) (d' : Device) (led' : Led t ((steps ++ turn.so_far) ++ step ∷ []) (record s { done = done; copied = copied }) d') (fewer : left_on d' < left_on d)
+          (at : slice_get (options answer next now x) (pick_of answer next held (option_count (pieces + parts) goes)) ≡ Some (Take step)) where
+        taken : Turn t steps s first x d' held'
+        taken = go turn.fuel turn.enough turn.whole
           where
-            at : slice_get (options answer next now x) (pick_of answer next held (option_count pieces goes)) ≡ Some (Take (RunPiece name))
-            at = turn_piece answer next now x turn.led.no_parts (pick_of answer next held (option_count pieces goes)) name (ap (λ (k : ℕ). slice_get (offered s.front.past turn.done) k) (sym pick_is) ∙ named)
-
-            go : (fuel : ℕ) → left_in d.offers.ready < fuel → before_entry answer next s first x ≡ onward answer next turn.so_far (picks answer next fuel now held x) → Turn t steps s first x d' held'
+            go : (fuel : ℕ) → left_on d < fuel → before_entry answer next s first x ≡ onward answer next turn.so_far (picks answer next fuel now held x) → Turn t steps s first x d' held'
             go zero lt whole = absurd (omega (arith, lt))
             go (suc fuel) lt whole = record {
-              so_far = turn.so_far ++ RunPiece name ∷ [];
-              done = name ∷ turn.done;
+              so_far = turn.so_far ++ step ∷ [];
+              done = done;
+              copied = copied;
               fuel = fuel;
-              led = subst (λ (l : List Step). Led t l (record s { done = name ∷ turn.done }) d') (append_assoc steps turn.so_far (RunPiece name ∷ [])) (led_on piece d' ran);
-              enough = (let less = fewer_left piece among' d' ran in omega (arith, lt, less));
+              led = subst (λ (l : List Step). Led t l (record s { done = done; copied = copied }) d') (append_assoc steps turn.so_far (step ∷ [])) led';
+              enough = omega (arith, lt, fewer);
               whole =
-                  whole ∙ ap (λ (p : Picked). onward answer next turn.so_far p) (picks_piece answer next fuel now held x name (option_count pieces goes) size at)
-                  ∙ ap (λ (p : Picked). onward answer next turn.so_far (onward answer next (RunPiece name ∷ []) p)) (ap (λ (h : List ℕ). picks answer next fuel (record s { done = name ∷ turn.done }) h x) (sym held_is))
-                  ∙ ap (λ (l : List Step). record (picks answer next fuel (record s { done = name ∷ turn.done }) held' x) { steps = l }) (sym (append_assoc turn.so_far (RunPiece name ∷ []) (picks answer next fuel (record s { done = name ∷ turn.done }) held' x).steps));
+                  whole ∙ ap (λ (p : Picked). onward answer next turn.so_far p) (picks_step answer next fuel now held x step (option_count (pieces + parts) goes) size at)
+                  ∙ ap (λ (q : Stage). onward answer next turn.so_far (onward answer next (step ∷ []) (picks answer next fuel q (held_after answer next held (option_count (pieces + parts) goes)) x))) stage_is
+                  ∙ ap (λ (h : List ℕ). onward answer next turn.so_far (onward answer next (step ∷ []) (picks answer next fuel (record s { done = done; copied = copied }) h x))) (sym held_is)
+                  ∙ ap (λ (l : List Step). record (picks answer next fuel (record s { done = done; copied = copied }) held' x) { steps = l }) (sym (append_assoc turn.so_far (step ∷ []) (picks answer next fuel (record s { done = done; copied = copied }) held' x).steps));
             }
+
+      -- a piece runs
+      pub piece_taken : (piece : Piece) → slice_get (offered s.front.past turn.done) picked ≡ Some (name_of s.front.past piece) → Contains (ready d.offers.ready) piece → (d' : Device) → HasRun d d' piece → Turn t steps s first x d' held'
+      piece_taken piece named among' d' ran =
+          taken (RunPiece (name_of s.front.past piece)) (name_of s.front.past piece ∷ turn.done) turn.copied refl d' (led_on piece d' ran) (fewer_piece piece among' d' ran)
+          (turn_piece answer next now x (pick_of answer next held (option_count (pieces + parts) goes)) (name_of s.front.past piece) (ap (λ (k : ℕ). slice_get (offered s.front.past turn.done) k) (sym pick_is) ∙ named))
+
+      -- a part is copied
+      pub part_taken : (j part : ℕ) → picked ≡ pieces + j → slice_get (backing.parts_left d.passes) j ≡ Some part → Contains (backing.parts_left d.passes) part → (d' : Device) → HasCopied d d' part → d'.offers ≡ d.offers → Turn t steps s first x d' held'
+      part_taken j part is_at here among' d' copies same =
+          taken (CopyPart part) turn.done (part ∷ turn.copied) refl d' (copies t (steps ++ turn.so_far) now turn.led) (fewer_part part among' d' copies same)
+          (turn_part answer next now x (pick_of answer next held (option_count (pieces + parts) goes)) j part (sym pick_is ∙ is_at ∙ ap (λ (n : ℕ). n + j) counted) (ap (λ (l : List ℕ). slice_get l j) turn.led.passes.left ∙ here))

@@ -13,7 +13,7 @@ use Rattle.vk_model.specs.Sync.Node.{Node, Act, Runs, Depends, acts, nodes}
 use Rattle.vk_model.proofs.Lists.Members.{none_in, contains-cons, map_has, mapped_from, member_passes, found}
 use Rattle.vk_order.proofs.ElementPlaces.{with_member}
 use Rattle.vk_resources.specs.Fits.{FitsCommand, NamesLive}
-use Rattle.vk_model.specs.World.Bytes.{Byte, in_buffer, in_image, resource_at}
+use Rattle.vk_model.specs.World.Bytes.{Byte}
 use Rattle.vk_model.specs.World.ByteWrites.{ByteWrite, Source, Value, From}
 use Rattle.vk_model.specs.Laws.{PiecesAreByteWrites}
 use Rattle.vk_laws.proofs.Running.OfferedPieces.{offered_of}
@@ -21,7 +21,7 @@ use Rattle.vk_offers.proofs.Steps.{piece_low, piece_of}
 use Rattle.vk_model.specs.Trace.Order.{order}
 use Rattle.vk_model.specs.Rules.Table.{first_fault}
 use Rattle.vk_model.specs.Run.Pieces.{pieces}
-use Rattle.vk_model.specs.Run.Runs.{Name, same_name, is_done, offered, Step, Stage, RunPiece}
+use Rattle.vk_model.specs.Run.Runs.{Name, same_name, is_done, offered, parts_left, Step, Stage, RunPiece}
 use Rattle.vk_model.specs.Run.CachedRuns.{write_to, named_piece}
 use Rattle.vk_model.proofs.Sync.Numbers.{numbered, unique}
 use Rattle.vk_laws.specs.DefinedRuns.{OfferedArePieces, RunOf}
@@ -38,15 +38,13 @@ use Rattle.vk_offers.specs.IsOffers.{IsOffers, IsPieceOf, name_of, number_of, co
 use Rattle.vk_offers.proofs.Offering.{same_offers}
 use Rattle.vk_offers.proofs.Commands.{command_at}
 use Rattle.vk_transfer.specs.Ran.{given, stored, HaveRun}
-use Rattle.vk_resources.specs.declared.resources.Placed.{Placed}
-use Rattle.vk_resources.specs.Held.{byte_at, host_at, holding_in, placed, placed_in, shape_in, IsThere}
-use Rattle.vk_resources.proofs.Lying.{there_stays}
-use Rattle.vk_model.specs.declared.resource.ImageInfo.{ImageInfo}
-use Rattle.vk_map_cache.specs.Holdings.{Holdings}
+use Rattle.vk_resources.specs.Held.{byte_at, IsThere}
 use Rattle.vk_resources.specs.Matches.{Stands}
 use Rattle.vk_device.specs.declared.device.Device.{Device}
 use Rattle.vk_device.specs.Led.{Led, AreWorks}
 use Rattle.vk_device.specs.Inner.Fits.{FitsAction, AllFit}
+use Rattle.vk_backing.specs.Passing.{CopiesAgree}
+use Rattle.vk_device.proofs.KeptPasses.{piece_passes, was_there, host_same}
 use Rattle.vk_device.proofs.Staying.{later_fits}
 use Rattle.vk_device.proofs.Sources.{sources_there}
 use Rattle.vk_model.proofs.Lists.Items.{get_mapped, item_at}
@@ -149,32 +147,23 @@ module _ (t : List Entry) (steps : List Step) (s : Stage) (d : Device) (led : Le
   ms = named_piece s.front.past (name_of s.front.past piece)
 
   -- the device when it has run
-  pub has_run : PiecesGoOn → (new : Device) → HaveRun ms (byte_at d.resources) (byte_at new.resources) → Stands s.front.past new.resources → new.resources.resources ≡ d.resources.resources → new.resources.shapes ≡ d.resources.shapes → new.resources.cache ≡ d.resources.cache → new.resources.backed ≡ d.resources.backed → new.passes ≡ d.passes → new.works ≡ d.works
+  pub has_run : PiecesGoOn → (new : Device) → HaveRun ms (byte_at d.resources) (byte_at new.resources) → Stands s.front.past new.resources → new.resources.resources ≡ d.resources.resources → new.resources.shapes ≡ d.resources.shapes → new.resources.cache ≡ d.resources.cache → new.resources.backed ≡ d.resources.backed → CopiesAgree d.passes new.resources.backed new.resources.memory → new.passes ≡ d.passes → new.works ≡ d.works
       → new.waiting ≡ d.waiting → new.count ≡ d.count → IsOffers new.offers s.front.past (name_of s.front.past piece ∷ s.done)
       → Led t (steps ++ RunPiece (name_of s.front.past piece) ∷ []) (record s { done = name_of s.front.past piece ∷ s.done }) new
-  has_run go_on new ran matches resources shapes cache backed passes works waiting count offers = record {
+  has_run go_on new ran matches resources shapes cache backed agree passes works waiting count offers = record {
     memory = memory_after_piece ms led.memory;
     run = go_on t steps s led.memory (name_of s.front.past piece) led.run (is_offered s.front.past s.done d.offers led.offers piece at);
     holds = λ c there. record {
-      held = (led.holds c (was c there)).held ∙ sym (same_host c);
-      region = sym (ran c ∙ stored_same (byte_at d.resources) led.memory.region (write_to c ms) c (λ none. sym (led.holds c (was c there)).region) (λ w e is from. sym (led.holds e (sources c w e is from)).region));
+      held = (led.holds c (was_there d.resources new.resources resources shapes c there)).held ∙ sym (host_same d.resources new.resources resources cache c);
+      region = sym (ran c ∙ stored_same (byte_at d.resources) led.memory.region (write_to c ms) c (λ none. sym (led.holds c (was_there d.resources new.resources resources shapes c there)).region) (λ w e is from. sym (led.holds e (sources c w e is from)).region));
     };
     matches = matches;
     works = rw works led.works;
     waits = subst (λ (w : Waiting). IsWaiting w new.count s.front) (sym waiting) (subst (λ (k : ℕ). IsWaiting d.waiting k s.front) (sym count) led.waits);
     counts = count ∙ led.counts;
     offers = offers;
-    no_parts = led.no_parts;
-    passing = rw (passes, backed) led.passing;
-    none_begun = passes ∙ led.none_begun;
+    passes = rw passes (piece_passes (parts_left s) s.front.past d.passes d.resources new.resources backed resources shapes cache agree led.passes);
   }
-    where
-      was : (c : Byte) → IsThere new.resources c → IsThere d.resources c
-      was c there = there_stays new.resources d.resources c (ap (λ (bs : List (ℕ × Placed)). placed_in bs (resource_at c)) (sym resources)) (ap (λ (l : List (ℕ × ImageInfo)). shape_in l (resource_at c)) (sym shapes)) there
-
-      same_host : (c : Byte) → host_at new.resources c ≡ host_at d.resources c
-      same_host (in_buffer b k) = ap (λ (h : Holdings). holding_in h (placed new.resources b) k) cache ∙ ap (λ (bs : List (ℕ × Placed)). holding_in d.resources.cache (placed_in bs b) k) resources
-      same_host (in_image i l a x y p) = refl
 
   -- the bytes that it has written
   pub has_written : DirectRunsAreWritten → first_fault t ≡ None → (bytes : Byte → ℕ) → HaveRun ms (byte_at d.resources) bytes → (c : Byte) (w : ByteWrite) (v : ℕ) → write_to c ms ≡ Some w

@@ -19,8 +19,8 @@ use Rattle.vk_model.specs.World.Areas.{region_box}
 use Rattle.vk_model.specs.World.ByteWrites.{buffer_size}
 use Rattle.vk_image_transfer.specs.Rows.{BoxFits, RegionFits}
 use Rattle.vk_transfer.specs.Copies.{FitsBuffers}
-use Rattle.vk_resources.specs.Fits.{FitsFill, FitsClear, FitsRegions, FitsImages, FitsCommand, FitsEntry}
-use Rattle.vk_device.specs.Inner.Fits.{FitsAction}
+use Rattle.vk_resources.specs.Fits.{FitsFill, FitsClear, FitsRegions, FitsImages, FitsCommand}
+use Rattle.vk_device.specs.Inner.Fits.{FitsAction, FitsHost}
 
 -- an object that was made stays when a point comes
 module _ {A : Type 0} (kind : Entry → Option A) (past : Past) (b : ℕ) (info : A) (is : option_and_then kind (made past b) ≡ Some info) where
@@ -31,7 +31,7 @@ module _ {A : Type 0} (kind : Entry → Option A) (past : Past) (b : ℕ) (info 
       absurd cc
   other_id i none x false e = is
 
-  stays_host : (e k p q : ℕ) (x : Entry) → FitsEntry past x → option_and_then kind (made (record { entry = e; batch = k; place = p; queue = q; action = Host x } ∷ past) b) ≡ Some info
+  stays_host : (e k p q : ℕ) (x : Entry) → FitsHost past x → option_and_then kind (made (record { entry = e; batch = k; place = p; queue = q; action = Host x } ∷ past) b) ≡ Some info
   stays_host e k p q (entry.Buffer i y) fit = other_id i fit.unused.unmade (Some (entry.Buffer i y)) (b == i) refl
   stays_host e k p q (entry.Image i y) fit = other_id i fit.unused.unmade (Some (entry.Image i y)) (b == i) refl
   stays_host e k p q (entry.Memory i y) fit = other_id i fit.0.unmade (Some (entry.Memory i y)) (b == i) refl
@@ -50,7 +50,10 @@ module _ {A : Type 0} (kind : Entry → Option A) (past : Past) (b : ℕ) (info 
   stays_host e k p q (entry.Submit r bs) fit = is
   stays_host e k p q (entry.Flush r o n) fit = is
   stays_host e k p q (entry.Invalidate r o n) fit = is
-  stays_host e k p q _ fit = absurd fit
+  stays_host e k p q (entry.Defrag i r m n) fit = other_id i fit.unmade (Some (entry.Defrag i r m n)) (b == i) refl
+  stays_host e k p q (entry.Pass d) fit = is
+  stays_host e k p q (entry.EndPass d kept lost) fit = is
+  stays_host e k p q (entry.EndDefrag d) fit = is
 
   stays : (e k p q : ℕ) (a : Action) → FitsAction past a → option_and_then kind (made (record { entry = e; batch = k; place = p; queue = q; action = a } ∷ past) b) ≡ Some info
   stays e k p q (Host x) fit = stays_host e k p q x fit

@@ -6,6 +6,7 @@ use Rattle.std.proofs.lemmas.Bool.{and_parts, and_from, lt-ltb, ltb-true, eqb-tr
 use Rattle.std.proofs.lemmas.List.{append_assoc}
 use Rattle.std.proofs.lemmas.List.Folds.{list_any-append}
 use Rattle.vk_model.specs.declared.entry.Entry.{Entry}
+use Rattle.vk_model.specs.declared.entry.Entry.TheVariants as entry
 use Rattle.vk_model.specs.Basics.{among}
 use Rattle.vk_model.specs.Trace.Point.{Past}
 use Rattle.vk_model.specs.World.Bytes.{Byte, in_buffer, in_image, resource_at}
@@ -19,7 +20,9 @@ use Rattle.vk_resources.specs.Held.{Held, placed_in, shape_in, IsThere, HasCell}
 use Rattle.vk_resources.proofs.Lying.{there_stays}
 use Rattle.vk_model.specs.declared.resource.ImageInfo.{ImageInfo}
 use Rattle.vk_resources.specs.Matches.{Stands}
-use Rattle.vk_device.specs.Inner.Ready.{HasTouched, Touches}
+use Rattle.vk_resources.specs.Fits.{FitsEntry}
+use Rattle.vk_device.specs.Inner.Fits.{FitsHost}
+use Rattle.vk_device.specs.Inner.Ready.{HasTouched, KeepsPasses, Touches}
 use Rattle.vk_laws.proofs.DirectRuns.RunsOn.{no_atoms}
 
 -- ---- tests of atoms
@@ -84,7 +87,7 @@ module _ (answer : List ℕ → ℕ → ℕ) (next : List ℕ → ℕ → List �
     taken = [];
     low = refl;
     picks = refl;
-    touched = record { cells = λ c cell there has. rw (no_atoms (touched_by x) c) has; matches = λ past m. m; resources = refl; shapes = refl; backed = refl; same = λ e. refl };
+    touched = record { cells = λ c cell there has. rw (no_atoms (touched_by x) c) has; matches = λ past m. m; resources = refl; shapes = refl; backed = refl; copies = λ p h all agree. (all, agree); same = λ e. refl };
   }
 
   lower : (atoms : List ℕ) (i : ℕ) → IsTrue (list_all (λ j. nat_lt j i) atoms) → IsTrue (list_all (λ j. nat_lt j (i + 1)) atoms)
@@ -131,8 +134,8 @@ module _ (answer : List ℕ → ℕ → ℕ) (next : List ℕ → ℕ → List �
     }
 
     -- it is
-    pub takes : (answer held 2 % 2 == 1) ≡ true → (new : Held) → TurnsOver x i mid new → ((past : Past) → Stands past mid → Stands past new) → new.resources ≡ mid.resources → new.shapes ≡ mid.shapes → new.backed ≡ mid.backed → SoFar answer next x count (i + 1) first (next held 2) old new
-    takes picked new turned matches resources shapes backed = record {
+    pub takes : (answer held 2 % 2 == 1) ≡ true → (new : Held) → TurnsOver x i mid new → ((past : Past) → Stands past mid → Stands past new) → new.resources ≡ mid.resources → new.shapes ≡ mid.shapes → new.backed ≡ mid.backed → KeepsPasses mid new → SoFar answer next x count (i + 1) first (next held 2) old new
+    takes picked new turned matches resources shapes backed copies = record {
       left = one_left.0;
       counts = let c = so.counts in let one = one_left.1 in omega (arith, c, one);
       taken = so.taken ++ i ∷ [];
@@ -146,6 +149,7 @@ module _ (answer : List ℕ → ℕ → ℕ) (next : List ℕ → ℕ → List �
         resources = resources ∙ so.touched.resources;
         shapes = shapes ∙ so.touched.shapes;
         backed = backed ∙ so.touched.backed;
+        copies = λ p h all agree. (let both = so.touched.copies p h all agree in copies p (rw so.touched.backed h) both.0 both.1);
         same = λ e. absurd (not_empty so.taken e);
       };
     }
@@ -170,10 +174,10 @@ module _ (answer : List ℕ → ℕ → ℕ) (next : List ℕ → ℕ → List �
 
 -- the same by what the scheduler answered and holds then
 module _ (answer : List ℕ → ℕ → ℕ) (next : List ℕ → ℕ → List ℕ) (x : Entry) (count : ℕ) (first : List ℕ) (old : Held) (i : ℕ) (held after : List ℕ) (mid : Held) (below : i < count) (so : SoFar answer next x count i first held old mid) (picked : ℕ) (is : picked ≡ answer held 2) (so_next : after ≡ next held 2) where
-  pub took : picked % 2 ≡ 1 → (new : Held) → TurnsOver x i mid new → ((past : Past) → Stands past mid → Stands past new) → new.resources ≡ mid.resources → new.shapes ≡ mid.shapes → new.backed ≡ mid.backed → SoFar answer next x count (i + 1) first after old new
-  took one new turned matches resources shapes backed =
+  pub took : picked % 2 ≡ 1 → (new : Held) → TurnsOver x i mid new → ((past : Past) → Stands past mid → Stands past new) → new.resources ≡ mid.resources → new.shapes ≡ mid.shapes → new.backed ≡ mid.backed → KeepsPasses mid new → SoFar answer next x count (i + 1) first after old new
+  took one new turned matches resources shapes backed copies =
       subst (λ (l : List ℕ). SoFar answer next x count (i + 1) first l old new) (sym so_next)
-      (takes answer next x count first old i held mid below so (subst (λ (n : ℕ). (n % 2 == 1) ≡ true) is (eq-eqb (picked % 2) 1 one)) new turned matches resources shapes backed)
+      (takes answer next x count first old i held mid below so (subst (λ (n : ℕ). (n % 2 == 1) ≡ true) is (eq-eqb (picked % 2) 1 one)) new turned matches resources shapes backed copies)
 
   pub skipped : (picked % 2 ≡ 1 → ⊥) → SoFar answer next x count (i + 1) first after old mid
   skipped other =
@@ -188,3 +192,21 @@ touches_all answer next past x count i first held old new is all so =
       touched = subst (λ (n : ℕ). HasTouched x (atom_picks answer next n 0 first).0 old new) is e.0;
       holds = e.1 ∙ ap (λ (n : ℕ). (atom_picks answer next n 0 first).1) is;
     }
+
+-- ---- the atoms of an entry
+
+-- an entry that accesses atoms fits what resources are
+pub touched_fits : (past : Past) (x : Entry) (k : ℕ) → FitsHost past x → k < atom_count past x → FitsEntry past x
+touched_fits past (entry.Defrag i q n m) k fits low = absurd (omega (arith, low))
+touched_fits past (entry.Pass d) k fits low = absurd (omega (arith, low))
+touched_fits past (entry.EndPass d kept lost) k fits low = absurd (omega (arith, low))
+touched_fits past (entry.EndDefrag d) k fits low = absurd (omega (arith, low))
+touched_fits past _ k fits low = fits
+
+-- and their number is known of each
+pub atoms_are : (past : Past) (x : Entry) (n : ℕ) → FitsHost past x → (FitsEntry past x → n ≡ atom_count past x) → (touched_by x ≡ None → n ≡ 0) → n ≡ atom_count past x
+atoms_are past (entry.Defrag i q r m) n fits counted none = none refl
+atoms_are past (entry.Pass d) n fits counted none = none refl
+atoms_are past (entry.EndPass d kept lost) n fits counted none = none refl
+atoms_are past (entry.EndDefrag d) n fits counted none = none refl
+atoms_are past _ n fits counted none = counted fits

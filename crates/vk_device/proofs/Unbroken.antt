@@ -33,7 +33,7 @@ BreaksNone past p = (r : Rule) → breaks r past p ≡ false
 pub breaks_none : (past : Past) (p : Point) → IsClean (p ∷ past) → BreaksNone past p
 breaks_none past p clean r = false_from_ne_true (breaks r past p) (clean.sound past p r newest)
 
--- ---- what the supported forms get of it
+-- ---- what entries and commands get of it
 
 pub not-false : (b : Bool) → not b ≡ false → b ≡ true
 not-false true e = refl

@@ -5,7 +5,7 @@ use Rattle.std.specs.List.{list_all}
 use Rattle.std.proofs.lemmas.Bool.{lt-ltb}
 use Rattle.vk_model.specs.declared.entry.Entry.{Entry}
 use Rattle.vk_model.specs.Laws.{NoFaultIsSound}
-use Rattle.vk_model.specs.Run.Runs.{Step, Stage, Apply, applied, touched_by, atom_count}
+use Rattle.vk_model.specs.Run.Runs.{Step, Stage, Apply, applied, parts_left, touched_by, atom_count}
 use Rattle.vk_model.specs.Run.Picks.{Picked, before_entry, atom_picks}
 use Rattle.vk_model.specs.Trace.Order.{host}
 use Rattle.vk_model.specs.Trace.Point.{Past}
@@ -14,20 +14,20 @@ use Rattle.vk_laws.specs.DirectRuns.{DirectRunsAreRuns, NewMemoryHoldsAnything, 
 use Rattle.vk_laws.specs.PickedRuns.{PicksLeadOn}
 use Rattle.vk_resources.specs.declared.applied.Applied.{Applied}
 use Rattle.vk_resources.specs.declared.applied.Applied.TheVariants as applied
-use Rattle.vk_resources.specs.Done.{EntryReady, DoneBy}
-use Rattle.vk_resources.specs.Fits.{FitsEntry}
 use Rattle.vk_resources.specs.Held.{Held}
 use Rattle.vk_resources.specs.Matches.{Stands}
-use Rattle.vk_resources.specs.Passes.{HasSpared, KeepsSpared}
+use Rattle.vk_backing.specs.Passing.{Passing}
 use Rattle.vk_device.specs.declared.device.Device.{Device}
 use Rattle.vk_device.specs.Inner.Clean.{IsClean}
-use Rattle.vk_device.specs.Inner.Ready.{HostDone, Touches, Picks, AdvanceReady}
+use Rattle.vk_device.specs.Inner.Ready.{HostDone, Touches, Picks, AdvanceReady, MayChange, HasDone, IsDone}
+use Rattle.vk_device.specs.Passes.{HasPasses, parts_begun}
+use Rattle.vk_device.proofs.KeptPasses.{touched_passes}
 use Rattle.vk_device.specs.Led.{Led, IsBefore, Applies, Reads, IsNext}
-use Rattle.vk_device.proofs.Entering.{clean_next, fits_next, host_done, none_spares, goes_of, reads_of, before, follows_before, reads_before, picked_atoms, applies}
+use Rattle.vk_device.proofs.Entering.{clean_next, host_done, goes_of, reads_of, before, follows_before, reads_before, picked_atoms, applies}
 
 -- where there was no room nothing was changed, and no atom was picked
-no_change : (a : Applied) (e : ℕ) (x : Entry) (past : Past) (old new : Held) → a ≡ applied.NoRoom → DoneBy a e x past old new → (new ≡ old) × (touched_by x ≡ None)
-no_change a e x past old new is done = subst (λ (b : Applied). DoneBy b e x past old new) is done
+no_change : (a : Applied) (e : ℕ) (x : Entry) (past : Past) (parts : List ℕ) (old : Held) (p : Passing) (new : Held) (q : Passing) → a ≡ applied.NoRoom → IsDone a e x past parts old p new q → (new ≡ old) × (q ≡ p) × (touched_by x ≡ None)
+no_change a e x past parts old p new q is done = subst (λ (b : Applied). IsDone b e x past parts old p new q) is done
 
 no_atoms : (past : Past) (x : Entry) → touched_by x ≡ None → atom_count past x ≡ 0
 no_atoms past x none = rw (atom_count, none) refl
@@ -71,18 +71,19 @@ module _ (laws : Laws) (answer : List ℕ → ℕ → ℕ) (next : List ℕ → 
         (n.0, n.1 ++ p.steps, p.stage, n.3, follows_before answer next n.0 n.1 n.2 held x n.3 old mid between laws.runs laws.lead_on n.4 (picked n.0 n.1 n.2 n.3 n.4))
 
     module _ (touched : WasTouched) where
-      pub entry_ready : IsNext old x → EntryReady r x
-      entry_ready n =
+      -- the device between with these resources, for which the entry comes next
+      pub may_change : IsNext old x → MayChange (record mid { resources = r }) x
+      may_change n =
           let now = next_then n in
-          let past = now.2.front.past in
-          (past, (touched now.0 now.1 now.2 now.3 now.4).touched.matches past now.4.led.matches, fits_next now.2.count x past (clean_next now.0 now.1 now.2 x now.3 mid laws.sound laws.runs laws.following now.4))
-
-      pub entry_spares : IsNext old x → HasSpared r x
-      entry_spares n =
-          let now = next_then n in
-          let led = now.4.led in
-          let backed = (touched now.0 now.1 now.2 now.3 now.4).touched.backed in
-          (mid.passes, rw backed led.passing, none_spares mid.passes led.none_begun r.backed x)
+          let was = (touched now.0 now.1 now.2 now.3 now.4).touched in
+          record {
+            number = now.2.count;
+            past = now.2.front.past;
+            parts = parts_left now.2;
+            clean = clean_next now.0 now.1 now.2 x now.3 mid laws.sound laws.runs laws.following now.4;
+            stands = was.matches now.2.front.past now.4.led.matches;
+            passes = touched_passes (parts_left now.2) now.2.front.past mid.passes x _ mid.resources r was now.4.led.passes;
+          }
 
       module _ (t : List Entry) (steps : List Step) (s : Stage) (xs : List Entry) (h : IsBefore t steps s x xs old) where
         abbrev p : Picked
@@ -98,34 +99,36 @@ module _ (laws : Laws) (answer : List ℕ → ℕ → ℕ) (next : List ℕ → 
         touches : Touches answer next (before_entry answer next s held x).stage.front.past x (before_entry answer next s held x).held mid.resources r after
         touches = subst (λ (l : List ℕ). Touches answer next (before_entry answer next s held x).stage.front.past x l mid.resources r after) (picked t steps s xs h).1 (touched t _ _ xs now)
 
-        fits : FitsEntry (before_entry answer next s held x).stage.front.past x
-        fits = fits_next _ x _ clean
-
         matches : Stands (before_entry answer next s held x).stage.front.past r
         matches = touches.touched.matches (before_entry answer next s held x).stage.front.past now.led.matches
 
-        -- where there was no room
-        pub refused : (new : Held) (a : Applied) → a ≡ applied.NoRoom → ((e : ℕ) (past : Past) → Stands past r → FitsEntry past x → DoneBy a e x past r new) → (new ≡ mid.resources) × (after ≡ between)
-        refused new a is done =
-            let none = no_change a (before_entry answer next s held x).stage.count x (before_entry answer next s held x).stage.front.past r new is (done (before_entry answer next s held x).stage.count (before_entry answer next s held x).stage.front.past matches fits) in
-            let many = no_atoms (before_entry answer next s held x).stage.front.past x none.1 in
-            let same = touches.touched.same (ap (λ (n : ℕ). (atom_picks answer next n 0 (before_entry answer next s held x).held).0) many) in
-            (none.0 ∙ same, touches.holds ∙ ap (λ (n : ℕ). (atom_picks answer next n 0 (before_entry answer next s held x).held).1) many ∙ sym (picked t steps s xs h).1)
+        passes : HasPasses (parts_left (before_entry answer next s held x).stage) (before_entry answer next s held x).stage.front.past mid.passes r
+        passes = touched_passes (parts_left (before_entry answer next s held x).stage) (before_entry answer next s held x).stage.front.past mid.passes x _ mid.resources r touches.touched now.led.passes
 
-        module _ (new : Held) (a : Applied) (other : a ≡ applied.NoRoom → ⊥) (done : (e : ℕ) (past : Past) → Stands past r → FitsEntry past x → DoneBy a e x past r new) (spared : KeepsSpared x r new) where
-          did : DoneBy a (before_entry answer next s held x).stage.count x (before_entry answer next s held x).stage.front.past r new
-          did = done (before_entry answer next s held x).stage.count (before_entry answer next s held x).stage.front.past matches fits
+        module _ (new : Device) (a : Applied) (done : HasDone a x (record mid { resources = r }) new) where
+          did : IsDone a (before_entry answer next s held x).stage.count x (before_entry answer next s held x).stage.front.past (parts_left (before_entry answer next s held x).stage) r mid.passes new.resources new.passes
+          did = done (before_entry answer next s held x).stage.count (before_entry answer next s held x).stage.front.past (parts_left (before_entry answer next s held x).stage) clean matches passes
 
-          pub was_done : HostDone t (steps ++ (before_entry answer next s held x).steps) (before_entry answer next s held x).stage x xs (picked_atoms answer next t steps s held x xs).0 (record mid { resources = new })
-          was_done = host_done t (steps ++ (before_entry answer next s held x).steps) (before_entry answer next s held x).stage x xs (picked_atoms answer next t steps s held x xs).0 mid r new laws.anything laws.entries_go now (picked t steps s xs h).2
-              (atoms_below answer next (atom_count (before_entry answer next s held x).stage.front.past x) 0 (atom_count (before_entry answer next s held x).stage.front.past x) (before_entry answer next s held x).held (omega arith)) clean touches.touched
-              (goes_of a (before_entry answer next s held x).stage.count x (before_entry answer next s held x).stage.front.past r new other did) spared
+          -- where there was no room
+          pub refused : a ≡ applied.NoRoom → (new.resources ≡ mid.resources) × (new.passes ≡ mid.passes) × (after ≡ between)
+          refused is =
+              let none = no_change a _ x _ _ r mid.passes new.resources new.passes is did in
+              let many = no_atoms (before_entry answer next s held x).stage.front.past x none.2 in
+              let same = touches.touched.same (ap (λ (n : ℕ). (atom_picks answer next n 0 (before_entry answer next s held x).held).0) many) in
+              (none.0 ∙ same, none.1, touches.holds ∙ ap (λ (n : ℕ). (atom_picks answer next n 0 (before_entry answer next s held x).held).1) many ∙ sym (picked t steps s xs h).1)
 
-          pub read_then : Reads a s x
-          read_then = reads_before answer next t steps s held x xs old a laws.runs laws.lead_on h (reads_of t (steps ++ (before_entry answer next s held x).steps) (before_entry answer next s held x).stage x xs (picked_atoms answer next t steps s held x xs).0 mid r new laws.reads_trace clean now touches.touched a did)
+          module _ (other : a ≡ applied.NoRoom → ⊥) where
+            pub was_done : HostDone t (steps ++ (before_entry answer next s held x).steps) (before_entry answer next s held x).stage x xs (picked_atoms answer next t steps s held x xs).0 (record mid { resources = new.resources; passes = new.passes })
+            was_done = host_done t (steps ++ (before_entry answer next s held x).steps) (before_entry answer next s held x).stage x xs (picked_atoms answer next t steps s held x xs).0 mid r new.resources new.passes laws.anything laws.entries_go now (picked t steps s xs h).2
+                (atoms_below answer next (atom_count (before_entry answer next s held x).stage.front.past x) 0 (atom_count (before_entry answer next s held x).stage.front.past x) (before_entry answer next s held x).held (omega arith)) clean touches.touched
+                (goes_of a _ x _ _ r mid.passes new.resources new.passes other did)
 
-          pub applied_then : (final : Device) → ((t : List Entry) (steps : List Step) (s : Stage) (xs : List Entry) (atoms : List ℕ) → HostDone t steps s x xs atoms (record mid { resources = new }) → Led t (steps ++ Apply atoms 0 ∷ []) (applied s 0 x xs) final) → Applies answer next a t steps s held x xs final after
-          applied_then final advances = applies answer next t steps s held x xs final after touches.holds (advances t (steps ++ (before_entry answer next s held x).steps) (before_entry answer next s held x).stage xs (picked_atoms answer next t steps s held x xs).0 was_done) a other
+            pub read_then : Reads a s x
+            read_then = reads_before answer next t steps s held x xs old a laws.runs laws.lead_on h (reads_of t (steps ++ (before_entry answer next s held x).steps) (before_entry answer next s held x).stage x xs (picked_atoms answer next t steps s held x xs).0 mid r new.resources laws.reads_trace clean now touches.touched a new.passes did)
 
-      pub advance_ready : (new : Held) (a : Applied) → (a ≡ applied.NoRoom → ⊥) → ((e : ℕ) (past : Past) → Stands past r → FitsEntry past x → DoneBy a e x past r new) → KeepsSpared x r new → IsNext old x → AdvanceReady (record mid { resources = new }) x
-      advance_ready new a other done spared n = (n.0, n.1 ++ (before_entry answer next n.2 held x).steps, (before_entry answer next n.2 held x).stage, n.3, (picked_atoms answer next n.0 n.1 n.2 held x n.3).0, was_done n.0 n.1 n.2 n.3 n.4 new a other done spared)
+            pub applied_then : (final : Device) → ((t : List Entry) (steps : List Step) (s : Stage) (xs : List Entry) (atoms : List ℕ) → HostDone t steps s x xs atoms (record mid { resources = new.resources; passes = new.passes }) → Led t (steps ++ Apply atoms (parts_begun final.passes x) ∷ []) (applied s (parts_begun final.passes x) x xs) final)
+                → Applies answer next a t steps s held x xs final after
+            applied_then final advances = applies answer next t steps s held x xs final after touches.holds (advances t (steps ++ (before_entry answer next s held x).steps) (before_entry answer next s held x).stage xs (picked_atoms answer next t steps s held x xs).0 was_done) a other
+
+      pub advance_ready : (new : Device) (a : Applied) → HasDone a x (record mid { resources = r }) new → (a ≡ applied.NoRoom → ⊥) → IsNext old x → AdvanceReady (record mid { resources = new.resources; passes = new.passes }) x
+      advance_ready new a done other n = (n.0, n.1 ++ (before_entry answer next n.2 held x).steps, (before_entry answer next n.2 held x).stage, n.3, (picked_atoms answer next n.0 n.1 n.2 held x n.3).0, was_done n.0 n.1 n.2 n.3 n.4 new a done other)

@@ -4,7 +4,9 @@ ghost use Rattle.vk_model.specs.Run.Runs.{Step, Stage, Apply, applied, offered};
 ghost use Rattle.vk_memory.specs.MemoryState.{IsLive, region_of};
 ghost use Rattle.vk_heap.specs.Region.{piece};
 ghost use Rattle.vk_resources.specs.Held.{placed, spot_of, IsSpotIn};
-ghost use Rattle.vk_resources.specs.Allocating.{NoRoomIsExact, Allots};
+ghost use Rattle.vk_resources.specs.Allocating.{NoRoomIsExact};
+ghost use Rattle.vk_backing.specs.PassAllots.{StaysAllotted};
+ghost use Rattle.vk_device.specs.Passes.{AllotsAll, parts_begun};
 ghost use Rattle.vk_offers.specs.IsOffers.{name_of};
 ghost use Rattle.vk_sync.specs.Ready.{ready};
 ghost use Rattle.vk_model.specs.Trace.PointViews.{point_of};
@@ -18,6 +20,7 @@ use vk_backing::Passes;
 use vk_laws::{
     commands_name_live, defined_runs_follow, direct_runs_are_fresh, direct_runs_are_runs,
     direct_runs_go_on, new_memory_holds_anything, offered_are_pieces, picks_are_runs,
+    pieces_stay_off_passes,
 };
 use vk_model::{
     Config, Entry, Point, Scheduler, growth_keeps, no_fault_is_sound, order_is_structured,
@@ -33,9 +36,9 @@ use vk_resources::{Applied, Resources, Spot, Work};
 pub struct Device<'a> {
     alloc: Global,
     /// Its buffers and their memory.
-    resources: Resources,
+    pub(crate) resources: Resources,
     /// The defragmentations that have begun.
-    passes: Passes,
+    pub(crate) passes: Passes,
     /// The batches that were submitted and not started.
     waiting: Waiting<'a>,
     /// The commands that were started, and which of their pieces have run.
@@ -45,13 +48,13 @@ pub struct Device<'a> {
     /// How many entries were applied.
     count: usize,
     /// Whether an entry has met `NoMemory`.
-    failed: bool,
+    pub(crate) failed: bool,
 }
 
 impl<'a> Device<'a> {
     ghost use Rattle.vk_model.specs.Run.Runs.{start};
     ghost use Rattle.vk_device.specs.Led.{Led, IsBefore, IsNext, MayRun, HasRun, HasWritten, HasChanged, KeepsMemory, Applies, Reads};
-    ghost use Rattle.vk_device.specs.Empty.{nothing_backed};
+    ghost use Rattle.vk_device.specs.Empty.{nothing_backed, none_begun};
     ghost use Rattle.vk_device.specs.Inner.Ready.{PrepareReady, Prepares, Waited, MayAsk, Goes, Picks, HostDone, AdvanceReady, Touches};
     ghost use Rattle.vk_resources.specs.Allocating.{allotted};
     ghost use Rattle.vk_device.specs.declared.applied.ApplyError.TheVariants.{NoMemory, Failed};
@@ -61,6 +64,7 @@ impl<'a> Device<'a> {
         ensures led { (t : List Entry) → Led t [] (start t) result }
         ensures empty { result.resources.memory ≡ record { sizes = config; objects = [] } }
         ensures bare { result.resources.backed ≡ nothing_backed }
+        ensures passes { result.passes ≡ none_begun }
         ensures works { result.failed ≡ false }
     {
         direct_runs_go_on();
@@ -84,6 +88,7 @@ impl<'a> Device<'a> {
         ensures changed { HasChanged self.old self.new piece }
         ensures rest { KeepsMemory self.old self.new piece }
         ensures allotted { allotted self.new.resources ≡ allotted self.old.resources }
+        ensures passes { self.new.passes ≡ self.old.passes }
         ensures failed { self.new.failed ≡ self.old.failed }
     {
         direct_runs_go_on();
@@ -94,6 +99,8 @@ impl<'a> Device<'a> {
         no_fault_is_sound();
         commands_name_live();
         pieces_are_byte_writes();
+        pieces_stay_off_passes();
+        self.resources.are_resources();
         self.resources
             .run_piece(&self.works[piece.command], piece.index);
         self.offers.finish(piece);
@@ -148,9 +155,9 @@ impl<'a> Device<'a> {
         }
     }
 
-    /// Runs pieces as the scheduler picks them, until it picks the entry that comes next. It is asked
-    /// where it has a choice. The only error is want of memory, or of numbers where 2^64 - 1 pieces
-    /// may run.
+    /// Runs pieces and copies parts of the open pass as the scheduler picks them, until it picks the
+    /// entry that comes next. It is asked where it has a choice. The only error is want of memory, or
+    /// of numbers where 2^64 - 1 pieces and parts are left.
     fn run_picked<S: Scheduler>(
         &mut self,
         entry: &'a Entry,
@@ -160,6 +167,7 @@ impl<'a> Device<'a> {
         ensures picked { OnOk result ((t : List Entry) (steps : List Step) (s : Stage) (xs : List Entry) → IsBefore t steps s entry.now xs self.old
             → Picks S.answer S.next t steps s (S.held sched.old) entry.now self.new (S.held sched.new)) }
         ensures allotted { allotted self.new.resources ≡ allotted self.old.resources }
+        ensures stays { StaysAllotted (allotted self.old.resources) self.old.passes (allotted self.new.resources) self.new.passes }
         ensures failed { self.new.failed ≡ self.old.failed }
     {
         picks_are_runs();
@@ -167,16 +175,21 @@ impl<'a> Device<'a> {
         let commands = self.waited(entry)?;
         loop {
             let pieces = self.offers.count();
-            if pieces == u64::MAX {
+            let parts = self.passes.parts_left();
+            if pieces >= u64::MAX - parts {
                 return Err(AllocError);
             }
             let goes = self.may_go(commands);
-            let picked = pick(pieces, goes, sched);
-            if picked >= pieces {
+            let picked = pick(pieces + parts, goes, sched);
+            if picked < pieces {
+                let piece = self.offers.nth(picked);
+                self.run(piece);
+            } else if picked - pieces < parts {
+                let part = self.passes.nth_part(picked - pieces);
+                self.copy_next(part);
+            } else {
                 return Ok(());
             }
-            let piece = self.offers.nth(picked);
-            self.run(piece);
         }
     }
 
@@ -207,8 +220,9 @@ impl<'a> Device<'a> {
     fn advance(&mut self, entry: &'a Entry) -> Result<(), AllocError>
         requires { AdvanceReady self.old entry.now }
         ensures advanced { OnOk result ((t : List Entry) (steps : List Step) (s : Stage) (xs : List Entry) (atoms : List ℕ) → HostDone t steps s entry.now xs atoms self.old
-            → Led t (steps ++ Apply atoms 0 ∷ []) (applied s 0 entry.now xs) self.new) }
-        ensures allotted { allotted self.new.resources ≡ allotted self.old.resources }
+            → Led t (steps ++ Apply atoms (parts_begun self.new.passes entry.now) ∷ []) (applied s (parts_begun self.new.passes entry.now) entry.now xs) self.new) }
+        ensures resources { OnOk result (self.new.resources ≡ self.old.resources) }
+        ensures passes { OnOk result (self.new.passes ≡ self.old.passes) }
         ensures failed { self.new.failed ≡ self.old.failed }
     {
         points_come_next();
@@ -239,7 +253,7 @@ impl<'a> Device<'a> {
             → Applies S.answer S.next a t steps s (S.held sched.old) entry.now xs self.new (S.held sched.new)) }
         ensures reads { IfOk result (λ a. (t : List Entry) (steps : List Step) (s : Stage) (xs : List Entry) → IsBefore t steps s entry.now xs self.old → Reads a s entry.now) }
         ensures rooms { IfOk result (λ a. NoRoomIsExact a self.old.resources entry.now) }
-        ensures allots { IfOk result (λ a. Allots a entry.now self.old.resources self.new.resources) }
+        ensures allots { IfOk result (λ a. AllotsAll a entry.now self.old.resources self.old.passes self.new.resources self.new.passes) }
         ensures failed { self.new.failed ≡ self.old.failed }
         ensures error { IfErr result (λ f. f ≡ NoMemory) }
     {
@@ -252,7 +266,7 @@ impl<'a> Device<'a> {
         defined_runs_follow();
         self.run_picked(entry, sched)?;
         self.touch(entry, sched)?;
-        match self.resources.apply(entry)? {
+        match self.change(entry)? {
             Applied::NoRoom => Ok(Applied::NoRoom),
             applied => {
                 self.advance(entry)?;
@@ -263,7 +277,8 @@ impl<'a> Device<'a> {
 
     /// Applies one entry. First pieces run, as the scheduler picks them, until it picks the entry: it
     /// is asked where it has two options or more, which are the pieces that may run next, in reference
-    /// order, and then the entry, where it may be applied; and then for each atom of a buffer in memory
+    /// order, then the parts of the open pass that are left to be copied, and then the entry, where it
+    /// may be applied; and then for each atom of a buffer in memory
     /// of type 2 that the host accesses by it. What the entry allocates is placed, what it
     /// reads is answered, and the batches that can be started with it are. The entries so far with
     /// this one are to break no rule. `NoRoom` comes exactly where the memory object that the entry
@@ -278,7 +293,7 @@ impl<'a> Device<'a> {
             → Applies S.answer S.next a t steps s (S.held sched.old) entry.now xs self.new (S.held sched.new)) }
         ensures reads { IfOk result (λ a. (t : List Entry) (steps : List Step) (s : Stage) (xs : List Entry) → IsBefore t steps s entry.now xs self.old → Reads a s entry.now) }
         ensures rooms { IfOk result (λ a. NoRoomIsExact a self.old.resources entry.now) }
-        ensures allots { IfOk result (λ a. Allots a entry.now self.old.resources self.new.resources) }
+        ensures allots { IfOk result (λ a. AllotsAll a entry.now self.old.resources self.old.passes self.new.resources self.new.passes) }
         ensures works { IfOk result (λ a. (self.old.failed ≡ false) × (self.new.failed ≡ false)) }
         ensures error { IfErr result (λ f. f ≡ (if self.old.failed then Failed else NoMemory)) }
         ensures failed { OnErr result (self.new.failed ≡ true) }

@@ -3,6 +3,8 @@
 #![tactic(auto)]
 
 mod applied;
+mod changes;
+mod copies;
 mod device;
 mod replaying;
 

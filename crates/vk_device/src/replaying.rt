@@ -2,14 +2,14 @@ ghost use Rattle.std.specs.Prelude.{◌≡◌, length, IfOk, IfErr, MatchOption,
 ghost use Rattle.vk_model.specs.World.Meaning.{meaning};
 ghost use Rattle.vk_model.specs.Rules.Table.{first_fault};
 ghost use Rattle.vk_device.specs.Led.{IsSoundTrace};
-ghost use Rattle.vk_device.specs.Replays.{Ends, LedByPicks};
+ghost use Rattle.vk_device.specs.Replays.{Ends};
 ghost use Rattle.vk_device.specs.declared.applied.ApplyError.TheVariants.{NoMemory};
 
 use crate::applied::ApplyError;
 use crate::device::Device;
 use std::alloc::Global;
 use vk_laws::{defined_runs_follow, direct_runs_are_runs, picks_are_runs};
-use vk_model::{Config, Entry, Scheduler, Sequence};
+use vk_model::{Config, Entry, Scheduler, Sequence, parts_follow};
 use vk_resources::Applied;
 use vk_validate::Accepted;
 
@@ -36,11 +36,9 @@ pub fn replay<'a, S: Scheduler>(
     // The reads are what the trace means, up to the stop where there is one.
     ensures meaning { IfOk result (λ r. MatchOption r.stop
         (r.reads ≡ meaning accepted.now (length accepted.now)) (λ n. r.reads ≡ meaning accepted.now n)) }
-    // What the scheduler picked has led to the device.
-    ensures led { IfOk result (λ r. LedByPicks S.answer S.next accepted.now r.stop (S.held sched.old) r.device (S.held sched.new)) }
     // The device has what the entries that were applied allocate; it stops where the next entry finds
-    // no room there, and nowhere else.
-    ensures stop { IfOk result (λ r. Ends config accepted.now r.stop r.device) }
+    // no room there, and nowhere else; and what the scheduler picked has led to it.
+    ensures stop { IfOk result (λ r. Ends S.answer S.next config accepted.now r.stop (S.held sched.old) r.device (S.held sched.new)) }
     // The device has not failed.
     ensures works { IfOk result (λ r. r.device.failed ≡ false) }
     ensures error { IfErr result (λ f. f ≡ NoMemory) }
@@ -58,14 +56,14 @@ fn replay_entries<'a, S: Scheduler>(
     requires { IsSoundTrace entries.now }
     ensures meaning { IfOk result (λ r. MatchOption r.stop
         (r.reads ≡ meaning entries.now (length entries.now)) (λ n. r.reads ≡ meaning entries.now n)) }
-    ensures led { IfOk result (λ r. LedByPicks S.answer S.next entries.now r.stop (S.held sched.old) r.device (S.held sched.new)) }
-    ensures stop { IfOk result (λ r. Ends config entries.now r.stop r.device) }
+    ensures stop { IfOk result (λ r. Ends S.answer S.next config entries.now r.stop (S.held sched.old) r.device (S.held sched.new)) }
     ensures works { IfOk result (λ r. r.device.failed ≡ false) }
     ensures error { IfErr result (λ f. f ≡ NoMemory) }
 {
     defined_runs_follow();
     direct_runs_are_runs();
     picks_are_runs();
+    parts_follow();
     let mut device = Device::new(alloc, config);
     let mut reads = Vec::new(alloc);
     for (index, entry) in entries.iter().enumerate() {

@@ -11,13 +11,8 @@ returns-in-NoRoom-clause-meaning g c = c.new.ensures ∙ c.loop-index.invariant.
 
 pub returns-in-NoRoom-clause-stop : goal.returns-in-NoRoom-clause-stop
 returns-in-NoRoom-clause-stop g c =
-    (stops g.S.Scheduler.answer g.S.Scheduler.next c.args.config c.args.entries.now (g.S.Scheduler.held c.args.sched.now) c.loop-index.index c.loop-index.reads.items c.loop-index.device (g.S.Scheduler.held c.loop-index.sched) c.index-entries-index.result c.loop-index.invariant c.index-entries-index.is c.loop-index-test.true c.requires
-    c.apply.new.self (g.S.Scheduler.held c.apply.new.sched) c.in_ok-apply.field-0 c.in-NoRoom.is c.in_ok-apply.ensures.applied c.in_ok-apply.ensures.rooms c.in_ok-apply.ensures.allots).0
-
-pub returns-in-NoRoom-clause-led : goal.returns-in-NoRoom-clause-led
-returns-in-NoRoom-clause-led g c =
-    (stops g.S.Scheduler.answer g.S.Scheduler.next c.args.config c.args.entries.now (g.S.Scheduler.held c.args.sched.now) c.loop-index.index c.loop-index.reads.items c.loop-index.device (g.S.Scheduler.held c.loop-index.sched) c.index-entries-index.result c.loop-index.invariant c.index-entries-index.is c.loop-index-test.true c.requires
-    c.apply.new.self (g.S.Scheduler.held c.apply.new.sched) c.in_ok-apply.field-0 c.in-NoRoom.is c.in_ok-apply.ensures.applied c.in_ok-apply.ensures.rooms c.in_ok-apply.ensures.allots).1
+    stops g.S.Scheduler.answer g.S.Scheduler.next c.args.config c.args.entries.now (g.S.Scheduler.held c.args.sched.now) c.loop-index.index c.loop-index.reads.items c.loop-index.device (g.S.Scheduler.held c.loop-index.sched) c.index-entries-index.result c.loop-index.invariant c.index-entries-index.is c.loop-index-test.true c.requires
+    c.parts_follow.ensures c.apply.new.self (g.S.Scheduler.held c.apply.new.sched) c.in_ok-apply.field-0 c.in-NoRoom.is c.in_ok-apply.ensures.applied c.in_ok-apply.ensures.rooms c.in_ok-apply.ensures.allots
 
 pub loop-index-preserved : goal.loop-index-preserved
 loop-index-preserved g c =
@@ -31,8 +26,8 @@ loop-index-preserved g c =
     ]
 
 pub loop-index-init : goal.loop-index-init
-loop-index-init g c = rw c.new-reads.ensures.items (replays_start g.S.Scheduler.answer g.S.Scheduler.next c.args.config c.args.entries.now (g.S.Scheduler.held c.args.sched.now) c.new-device.result (c.new-device.ensures.led c.args.entries.now) c.new-device.ensures.empty c.new-device.ensures.bare c.new-device.ensures.works)
+loop-index-init g c = rw c.new-reads.ensures.items (replays_start g.S.Scheduler.answer g.S.Scheduler.next c.args.config c.args.entries.now (g.S.Scheduler.held c.args.sched.now) c.new-device.result (c.new-device.ensures.led c.args.entries.now) c.new-device.ensures.empty c.new-device.ensures.bare c.new-device.ensures.passes c.new-device.ensures.works)
 
-pub returns-clause-led : goal.returns-clause-led
-returns-clause-led g c =
-    (ends g.S.Scheduler.answer g.S.Scheduler.next c.args.config c.args.entries.now (g.S.Scheduler.held c.args.sched.now) c.loop-index.index c.loop-index.reads.items c.loop-index.device (g.S.Scheduler.held c.loop-index.sched) c.loop-index.invariant c.loop-index-test.false).2
+pub returns-clause-stop : goal.returns-clause-stop
+returns-clause-stop g c =
+    (ends g.S.Scheduler.answer g.S.Scheduler.next c.args.config c.args.entries.now (g.S.Scheduler.held c.args.sched.now) c.loop-index.index c.loop-index.reads.items c.loop-index.device (g.S.Scheduler.held c.loop-index.sched) c.loop-index.invariant c.loop-index-test.false).1

@@ -4,7 +4,6 @@ use Rattle.vk_model.specs.Trace.Point.{Past}
 use Rattle.vk_queues.specs.PointViews.{past_after}
 use Rattle.vk_offers.specs.declared.offers.Offers.{Offers}
 use Rattle.vk_offers.specs.IsOffers.{IsOffers}
-use Rattle.vk_resources.specs.Allocating.{allotted}
 use Rattle.vk_device.specs.Led.{AreWorks}
 use Rattle.vk_device.proofs.Coming.{coming, prepare_ready, prepared_next, past_more, advanced, arrived}
 use Rattle.vk_device.proofs.device.Device.advance.Goals as goal
@@ -75,9 +74,6 @@ loop-point-preserved c = record {
       subst (λ (l : Past). AreWorks c.prepare.new.self.works.items l) (sym (past_more s.front.past c.as_slice-point-items.result.now c.loop-point.point-index c.point-item.result c.point-item.is (omega (arith, c.loop-point-test.true))))
       (c.in_ok-pieces.ensures.prepared.works (past_after s.front.past (take c.loop-point.point-index c.as_slice-point-items.result.now)) (c.loop-point.invariant.works t steps s xs atoms h));
 }
-
-pub returns-in_err-pieces-clause-allotted : goal.returns-in_err-pieces-clause-allotted
-returns-in_err-pieces-clause-allotted c = ap allotted (c.prepare.ensures.resources ∙ c.loop-point.invariant.resources)
 
 pub returns-in_err-pieces-clause-failed : goal.returns-in_err-pieces-clause-failed
 returns-in_err-pieces-clause-failed c = c.prepare.ensures.failed ∙ c.loop-point.invariant.failed

@@ -2,7 +2,7 @@ use Rattle.std.proofs.Common.{ap, map, refl}
 use Rattle.vk_model.specs.Sync.Node.{Runs}
 use Rattle.vk_laws.specs.DirectRuns.{bare_memory}
 use Rattle.vk_resources.specs.Held.{byte_at}
-use Rattle.vk_device.proofs.Coming.{nothing_held, nothing_passing, none_there}
+use Rattle.vk_device.proofs.Coming.{nothing_begun, nothing_held, none_there}
 use Rattle.vk_device.proofs.device.Device.new.Goals as goal
 
 pub returns-clause-led : goal.returns-clause-led
@@ -15,7 +15,5 @@ returns-clause-led c = λ t. record {
   waits = c.new-3.ensures;
   counts = refl;
   offers = c.new-4.ensures;
-  no_parts = refl;
-  passing = nothing_passing c.new-2.result c.new-2.ensures c.new.result.backed c.new.ensures.backed;
-  none_begun = c.new-2.ensures;
+  passes = nothing_begun c.new-2.result c.new-2.ensures c.new.result c.new.ensures.backed;
 }

@@ -2,7 +2,9 @@ use Rattle.std.proofs.Common.{ap, refl, arith}
 use Rattle.std.proofs.lemmas.Option.{slice_get_within}
 use Rattle.vk_backing.specs.Allotted.{Allotted}
 use Rattle.vk_device.proofs.Following.{fits_so_far}
-use Rattle.vk_device.proofs.Running.{has_run, has_written, runnable, work_of}
+use Rattle.vk_device.proofs.Running.{has_run, has_written, is_offered, runnable, work_of}
+use Rattle.vk_offers.specs.IsOffers.{name_of}
+use Rattle.vk_device.proofs.PassBytes.{piece_bytes}
 use Rattle.vk_device.proofs.device.Device.run.Goals as goal
 
 pub index-requires : goal.index-requires
@@ -27,7 +29,10 @@ returns-clause-ran c = λ t steps s led sound.
     let fits = fits_so_far c.no_fault_is_sound.ensures t s (c.defined_runs_follow.ensures t steps s run) sound in
     let can = runnable t steps s c.args.self.now led c.args.piece c.requires.among c.index.result.now c.index.ensures run sound.faultless c.commands_name_live.ensures fits c.offered_are_pieces.ensures.pieces c.pieces_are_byte_writes.ensures in
     has_run t steps s c.args.self.now led c.args.piece c.requires.among can.sources c.direct_runs_go_on.ensures.pieces _ (c.run_piece.ensures.ran s.front.past _ led.matches can.fit can.content) (c.run_piece.ensures.matches s.front.past led.matches)
-    c.run_piece.ensures.placed c.run_piece.ensures.shapes c.run_piece.ensures.cache (ap (λ (a : Allotted). a.backed) c.run_piece.ensures.allotted) refl refl refl refl (c.finish.ensures s.front.past s.done led.offers)
+    c.run_piece.ensures.placed c.run_piece.ensures.shapes c.run_piece.ensures.cache (ap (λ (a : Allotted). a.backed) c.run_piece.ensures.allotted)
+    (c.run_piece.ensures.agree s.front.past _ led.matches can.fit can.content c.args.self.now.passes led.passes.passing
+    (piece_bytes t steps s (name_of s.front.past c.args.piece) c.args.self.now.resources c.args.self.now.passes c.pieces_stay_off_passes.ensures run sound.faultless
+    (is_offered s.front.past s.done c.args.self.now.offers led.offers c.args.piece c.requires.among) led.matches c.are_resources.ensures led.passes.passing led.passes.matches) led.passes.agree) refl refl refl refl (c.finish.ensures s.front.past s.done led.offers)
 
 pub returns-clause-written : goal.returns-clause-written
 returns-clause-written c = λ t steps s b w v led sound.
