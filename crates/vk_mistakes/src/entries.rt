@@ -1,6 +1,6 @@
 use crate::commands::command;
 use crate::forms::{Plain, expected_of, in_plain};
-use crate::mistakes::{Misfit, Search, another, found_there, inside, missing, unlike};
+use crate::mistakes::{Misfit, Search, another, inside, missing, unlike};
 use crate::rows::{Row, ended, in_plains, in_rows};
 use serde_json::Value;
 use std::alloc::Global;
@@ -16,6 +16,8 @@ enum Member {
     Waits,
     /// Batches.
     Batches,
+    /// Ids.
+    Ids,
 }
 
 /// What is expected where an entry has no word, or another one.
@@ -86,6 +88,14 @@ fn plain_members_of(word: &str) -> Option<&'static [Member]> {
             Member::Plain(Plain::Large),
             Member::Plain(Plain::Length),
         ]),
+        "defrag" => Some(&[
+            Member::Plain(Plain::Small),
+            Member::Plain(Plain::Small),
+            Member::Plain(Plain::Large),
+            Member::Plain(Plain::Small),
+        ]),
+        "pass" | "end_defrag" => Some(&[Member::Plain(Plain::Small)]),
+        "end_pass" => Some(&[Member::Plain(Plain::Small), Member::Ids, Member::Ids]),
         _ => None,
     }
 }
@@ -118,7 +128,7 @@ fn entry(alloc: Global, value: &Value) -> Search {
         None => None,
     };
     let Some(members) = members else {
-        return inside(unknown_word(alloc, first), 0);
+        return inside(another(alloc, ENTRY_WORDS, first), 0);
     };
     for (index, form) in members.iter().enumerate() {
         let found = member_at(alloc, values, index.saturating_add(1), *form)?;
@@ -127,18 +137,6 @@ fn entry(alloc: Global, value: &Value) -> Search {
         }
     }
     ended(alloc, values, members.len().saturating_add(1))
-}
-
-/// What is there in place of the word of an entry.
-fn unknown_word(alloc: Global, word: &Value) -> Search {
-    match word.as_str() {
-        Some("defrag") | Some("pass") | Some("end_pass") | Some("end_defrag") => found_there(
-            alloc,
-            ENTRY_WORDS,
-            "an entry of a defragmentation, which isn't supported yet",
-        ),
-        _ => another(alloc, ENTRY_WORDS, word),
-    }
 }
 
 fn member_at(alloc: Global, values: &[Value], number: usize, form: Member) -> Search {
@@ -150,6 +148,7 @@ fn member_at(alloc: Global, values: &[Value], number: usize, form: Member) -> Se
         Member::Place => place(alloc, value),
         Member::Waits => in_rows(alloc, value, Row::SemaphoreValue),
         Member::Batches => batches(alloc, value),
+        Member::Ids => ids(alloc, value),
     };
     inside(found, number)
 }
@@ -157,8 +156,22 @@ fn member_at(alloc: Global, values: &[Value], number: usize, form: Member) -> Se
 fn expected_member(form: Member) -> &'static str {
     match form {
         Member::Plain(form) => expected_of(form),
-        Member::Place | Member::Waits | Member::Batches => "an array",
+        Member::Place | Member::Waits | Member::Batches | Member::Ids => "an array",
     }
+}
+
+/// What keeps a value from being an array of ids.
+fn ids(alloc: Global, value: &Value) -> Search {
+    let Some(array) = value.as_array() else {
+        return unlike(alloc, "an array", value);
+    };
+    for (number, item) in array.as_slice().iter().enumerate() {
+        let found = in_plain(alloc, item, Plain::Small)?;
+        if found.is_some() {
+            return inside(Ok(found), number);
+        }
+    }
+    Ok(None)
 }
 
 /// What keeps a value from being a place.

@@ -31,7 +31,7 @@ pub fn another(alloc: Global, expected: &'static str, value: &Value) -> Search {
 }
 
 /// What is there in place of what is expected.
-pub fn found_there(alloc: Global, expected: &'static str, found: &'static str) -> Search {
+fn found_there(alloc: Global, expected: &'static str, found: &'static str) -> Search {
     Ok(Some(Misfit {
         outward: Vec::new(alloc),
         expected,
