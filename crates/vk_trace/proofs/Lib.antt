@@ -6,4 +6,3 @@ pub mod MemberLemmas
 pub mod LengthLemmas
 pub mod ReadLemmas
 pub mod ByteLemmas
-pub mod SupportedLemmas

@@ -1,7 +1,6 @@
 -- Which bytes are a trace, and of which entries: tables with a row for each form. The format is our own (profile).
--- A value of any other form is no trace, and one with an entry that isn't supported yet isn't either.
-use Rattle.std.specs.Prelude.{◌≡◌, ℕ, List, [], ◌∷◌, ◌++◌, map, codes, Option, Some, None, option_map, IsUtf8, true}
-use Rattle.std.specs.List.{list_all}
+-- A value of any other form is no trace.
+use Rattle.std.specs.Prelude.{◌≡◌, ℕ, List, [], ◌∷◌, ◌++◌, map, codes, Option, Some, None, option_map, IsUtf8}
 use Rattle.serde_json.specs.Data.{Data}
 use Rattle.serde_json.specs.Read.{read}
 use Rattle.serde_json.specs.Find.{as_str}
@@ -32,7 +31,6 @@ use Rattle.vk_model.specs.declared.entry.SemaphoreSubmit.{SemaphoreSubmit}
 use Rattle.vk_model.specs.declared.entry.Batch.{Batch}
 use Rattle.vk_model.specs.declared.entry.Entry.{Entry}
 use Rattle.vk_model.specs.declared.entry.Entry.TheVariants.{Buffer, Image, Memory as MemoryObject, Free, Destroy, Pool, DropPool, Map, Unmap, Write, Read, Flush, Invalidate, Semaphore, Event, Signal, Wait, Submit, Defrag, Pass, EndPass, EndDefrag}
-use Rattle.vk_model.specs.Trace.Supported.{is_supported_entry}
 use Rattle.vk_trace.specs.Members.{Reader, Row, ◌>>=◌, from, ◌<*>◌, members, at_word, one_word, tagged, list_of, bytes_value, u64_value, u32_value}
 
 -- A number of bytes, or the word that means all to the end (`VK_WHOLE_SIZE`) (profile).
@@ -269,10 +267,9 @@ entry_value = tagged entry_rows
 abbrev pub trace_value : Reader (List Entry)
 trace_value = list_of entry_value
 
--- The bytes are UTF-8, and spell a value of JSON that means these entries, each of a form that is supported.
+-- The bytes are UTF-8, and spell a value of JSON that means these entries.
 pub record IsTrace (bytes : List ℕ) (entries : List Entry) : Type 0 where
   pub text : IsUtf8 bytes
   pub value : Data
   pub json : read bytes ≡ Some value
   pub means : trace_value value ≡ Some entries
-  pub supported : list_all is_supported_entry entries ≡ true

@@ -1,8 +1,6 @@
 ghost use Rattle.std.specs.Prelude.{◌≡◌, List, option_and_then, IfOk};
-ghost use Rattle.std.specs.List.{list_all};
 ghost use Rattle.serde_json.specs.Read.{read};
 ghost use Rattle.vk_model.specs.declared.entry.Entry.{Entry};
-ghost use Rattle.vk_model.specs.Trace.Supported.{is_supported_entry};
 ghost use Rattle.vk_trace.specs.Inner.Gives.{Gives};
 ghost use Rattle.vk_trace.specs.Trace.{IsTrace};
 
@@ -11,7 +9,7 @@ use crate::members::Member;
 use crate::tokens::{Reading, Tokens};
 use json::{Reader, Scratch};
 use std::alloc::Global;
-use vk_model::{Action, Entry, Point, Sequence, is_supported};
+use vk_model::{Entry, Sequence};
 
 /// The entries that the bytes of a trace mean. `NotTrace` comes only where they mean none.
 ///
@@ -24,31 +22,7 @@ pub fn read_trace(alloc: Global, bytes: &[u8]) -> Result<Vec<Entry>, ReadTraceEr
         return Err(ReadTraceError::NotTrace);
     };
     let entries: Sequence<Entry> = meaning_of(alloc, text)?;
-    let entries = entries.into_vec();
-    if !are_supported(entries.as_slice()) {
-        return Err(ReadTraceError::NotTrace);
-    }
-    Ok(entries)
-}
-
-/// Whether each entry is of a supported form.
-fn are_supported(entries: &[Entry]) -> bool
-    ensures { result ≡ list_all is_supported_entry entries.now }
-{
-    entries.iter().all(is_supported_entry)
-}
-
-/// Whether an entry is of a supported form: what it does, wherever it is in the trace.
-fn is_supported_entry(entry: &Entry) -> bool
-    ensures { result ≡ is_supported_entry entry.now }
-{
-    is_supported(&Point {
-        entry: 0,
-        batch: 0,
-        place: 0,
-        queue: 0,
-        action: Action::Host(entry),
-    })
+    Ok(entries.into_vec())
 }
 
 /// What the value of JSON that a text spells means.
