@@ -1,16 +1,14 @@
--- Pasts that were judged: of supported forms, ordered, and without a fault.
-use Rattle.std.specs.Prelude.{◌≡◌, true, None, List, [], ◌∷◌, Option}
+-- Pasts that were judged: ordered, and without a fault.
+use Rattle.std.specs.Prelude.{◌≡◌, None, List, [], ◌∷◌, Option}
 use Rattle.std.specs.List.{find}
 use Rattle.vk_model.specs.declared.rule.Rule.{Rule}
 use Rattle.vk_model.specs.declared.rule.Rule.TheVariants as rule
 use Rattle.vk_model.specs.Trace.Point.{Past, Point}
 use Rattle.vk_model.specs.Trace.Structure.{IsOrdered}
 use Rattle.vk_model.specs.Rules.Table.{fault, breaks}
-use Rattle.vk_model.specs.Trace.Supported.{is_supported}
 
 -- A past that was judged.
 pub record IsJudged (past : Past) : Type 0 where
-  pub supported : is_supported past ≡ true
   pub ordered : IsOrdered past
   pub faultless : fault past ≡ None
 

@@ -27,11 +27,10 @@ use Rattle.vk_model.proofs.Lists.Members.{member_passes, map_has, contains-head}
 use Rattle.vk_model.proofs.Lists.Truths.{clash}
 use Rattle.vk_laws.proofs.Nodes.Steady.{made_step, made_until, new_ids}
 use Rattle.vk_history.specs.Judged.{IsJudged}
-use Rattle.vk_model.proofs.Trace.Supporting.{supported-cons}
 
 -- the past of a judged point is judged
 pub judged_rest : (past : Past) (p : Point) → IsJudged (p ∷ past) → IsJudged past
-judged_rest past p j = record { supported = (supported-cons p past j.supported).1; ordered = j.ordered.1; faultless = (fault-cons_none past p j.faultless).0 }
+judged_rest past p j = record { ordered = j.ordered.1; faultless = (fault-cons_none past p j.faultless).0 }
 
 -- what came before a point without a fault has none
 pub fault_rest : (past : Past) (p : Point) → fault (p ∷ past) ≡ None → fault past ≡ None
