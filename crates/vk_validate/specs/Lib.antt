@@ -1,4 +1,2 @@
 pub mod Inner
-pub mod Faults
-pub mod Acceptable
 pub mod Verdicts

@@ -1,10 +1,7 @@
-ghost use Rattle.std.specs.Prelude.{◌≡◌, IfOk, IsTrue, None};
+ghost use Rattle.std.specs.Prelude.{◌≡◌, IfOk, None};
 ghost use Rattle.vk_model.specs.Trace.Point as spec;
-ghost use Rattle.vk_model.specs.Trace.Order.{order};
 ghost use Rattle.vk_model.specs.Trace.Structure.{IsOrdered};
-ghost use Rattle.vk_model.specs.Rules.Table.{first_fault};
-ghost use Rattle.vk_model.specs.Trace.Supported.{is_supported};
-ghost use Rattle.vk_validate.specs.Faults.{reported_fault};
+ghost use Rattle.vk_model.specs.Rules.Table.{fault, first_fault};
 ghost use Rattle.vk_validate.specs.Verdicts.{reported, IsAbout};
 ghost use Rattle.vk_model.specs.Trace.PointViews.{point_of};
 ghost use Rattle.vk_queues.specs.PointViews.{past_of};
@@ -13,7 +10,7 @@ use crate::rules::first_rule;
 use std::alloc::{AllocError, Global};
 use std::marker::Model;
 use vk_history::History;
-use vk_model::{Action, At, Entry, Point, Rule, is_supported};
+use vk_model::{Action, At, Entry, Point, Rule};
 use vk_queues::reference_order;
 
 /// The entries of a trace that breaks no rule. Only `validate` makes one. Contracts see the
@@ -24,23 +21,21 @@ pub struct Accepted<'a> {
 }
 
 impl<'a> Model for Accepted<'a> {
-    ghost use Rattle.std.specs.Prelude.{List};
+    ghost use Rattle.std.specs.Prelude.{◌≡◌, List, None};
     ghost use Rattle.vk_model.specs.declared.entry.Entry.{Entry as Each};
+    ghost use Rattle.vk_model.specs.Rules.Table.{first_fault};
 
     ghost Value = { List Each };
 
-    ghost use Rattle.vk_validate.specs.Acceptable.{IsAcceptable};
-
     ghost view = { λ a. a.entries.now };
 
-    ghost invariant = { λ a. IsAcceptable a.entries.now };
+    ghost invariant = { λ a. first_fault a.entries.now ≡ None };
 }
 
 impl<'a> Accepted<'a> {
     /// The entries.
     pub fn entries(&self) -> &'a [Entry]
         ensures same { result.now ≡ self.now }
-        ensures supported { IsTrue (is_supported (order self.now)) }
         ensures faultless { first_fault self.now ≡ None }
     {
         self.entries
@@ -59,11 +54,9 @@ pub enum Verdict<'a> {
 /// Says whether a trace breaks a rule, and which it breaks first. It fails only for want of memory.
 ///
 /// The points of a trace are its entries, in order, and the waits, the commands and the signals of
-/// the batches of its submits, each batch where its waits are met. All forms are supported but those
-/// of a defragmentation: a point of one of these is refused by `Rule::LiveId`.
+/// the batches of its submits, each batch where its waits are met.
 pub fn validate<'a>(alloc: Global, entries: &'a [Entry]) -> Result<Verdict<'a>, AllocError>
-    ensures reported { IfOk result (λ v. reported v ≡ reported_fault (order entries.now)) }
-    ensures exact { IfOk result (λ v. IsTrue (is_supported (order entries.now)) → reported v ≡ first_fault entries.now) }
+    ensures exact { IfOk result (λ v. reported v ≡ first_fault entries.now) }
     ensures same { IfOk result (IsAbout entries.now) }
 {
     let points = reference_order(alloc, entries)?;
@@ -76,14 +69,11 @@ pub fn validate<'a>(alloc: Global, entries: &'a [Entry]) -> Result<Verdict<'a>, 
 /// The first of the points that breaks a rule, with its first rule.
 fn first_fault<'a>(alloc: Global, points: &'a [Point<'a>]) -> Result<Option<(At, Rule)>, AllocError>
     requires { IsOrdered (past_of points.now) }
-    ensures { IfOk result (λ fault. fault ≡ reported_fault (past_of points.now)) }
+    ensures { IfOk result (λ found. found ≡ fault (past_of points.now)) }
 {
     let mut history = History::new(alloc, points);
     for point in points {
         history.is_judged();
-        if !is_supported(point) {
-            return Ok(Some((at_of(point), Rule::LiveId)));
-        }
         if let Some(rule) = first_rule(&history, point)? {
             return Ok(Some((at_of(point), rule)));
         }

@@ -2,26 +2,18 @@ use Rattle.std.proofs.Common.{arith, ◌+◌, ◌≡◌, length, refl, sym, ◌�
 use Rattle.std.specs.Prelude.{slice_get}
 use Rattle.std.proofs.lemmas.Option.{slice_get_read}
 use Rattle.vk_model.specs.declared.rule.At.{At}
-use Rattle.vk_model.specs.declared.rule.Rule.TheVariants as rule
 use Rattle.vk_history.specs.PointViews.{Walk}
-use Rattle.vk_validate.specs.Faults.{reported_rule}
 use Rattle.vk_validate.proofs.Judging.Faults.{next_ordered, next_judged, done, reported_here}
 use Rattle.vk_validate.proofs.verdicts.first_fault.Goals as goal
 
 pub loop-point-preserved : goal.loop-point-preserved
 loop-point-preserved c = c.in_ok-advance.ensures ∙ ap (λ (v : Walk). record v { count = v.count + 1 }) c.loop-point.invariant
 
-pub returns-then-not-is_supported : goal.returns-then-not-is_supported
-returns-then-not-is_supported c =
-    let at : slice_get c.args.points.now c.loop-point.point-index ≡ Some c.point-item.result = slice_get_read c.args.points.now (length c.args.points.now) c.loop-point.point-index c.point-item.result refl (omega arith) c.point-item.is in
-    ap (λ (reported : At). Some (reported, rule.LiveId)) c.at_of.ensures
-    ∙ reported_here c.loop-point.history c.args.points.now c.loop-point.point-index c.loop-point.invariant c.point-item.result at rule.LiveId c.is_judged.ensures (rw (reported_rule, ← c.is_supported.ensures, c.if-not-is_supported.true) refl)
-
 pub returns-in-Some : goal.returns-in-Some
 returns-in-Some c =
     let at : slice_get c.args.points.now c.loop-point.point-index ≡ Some c.point-item.result = slice_get_read c.args.points.now (length c.args.points.now) c.loop-point.point-index c.point-item.result refl (omega arith) c.point-item.is in
-    ap (λ (reported : At). Some (reported, c.in-Some.rule)) c.at_of-in-Some.ensures
-    ∙ reported_here c.loop-point.history c.args.points.now c.loop-point.point-index c.loop-point.invariant c.point-item.result at c.in-Some.rule c.is_judged.ensures (rw (reported_rule, ← c.is_supported.ensures, c.if-not-is_supported.false) (sym c.in_ok-rule.ensures ∙ c.in-Some.is))
+    ap (λ (reported : At). Some (reported, c.in-Some.rule)) c.at_of.ensures
+    ∙ reported_here c.loop-point.history c.args.points.now c.loop-point.point-index c.loop-point.invariant c.point-item.result at c.in-Some.rule c.is_judged.ensures (sym c.in_ok-rule.ensures ∙ c.in-Some.is)
 
 pub first_rule-requires : goal.first_rule-requires
 first_rule-requires c =
@@ -34,7 +26,7 @@ advance-requires-clause-here c = rw c.loop-point.invariant (slice_get_read c.arg
 pub advance-requires-clause-judged : goal.advance-requires-clause-judged
 advance-requires-clause-judged c =
     let at : slice_get c.args.points.now c.loop-point.point-index ≡ Some c.point-item.result = slice_get_read c.args.points.now (length c.args.points.now) c.loop-point.point-index c.point-item.result refl (omega arith) c.point-item.is in
-    next_judged c.loop-point.history c.args.points.now c.loop-point.point-index c.loop-point.invariant c.point-item.result at c.is_judged.ensures c.requires (sym c.is_supported.ensures ∙ c.if-not-is_supported.false) (sym c.in_default.is ∙ c.in_ok-rule.ensures)
+    next_judged c.loop-point.history c.args.points.now c.loop-point.point-index c.loop-point.invariant c.point-item.result at c.is_judged.ensures c.requires (sym c.in_default.is ∙ c.in_ok-rule.ensures)
 
 pub returns : goal.returns
 returns c = done c.loop-point.history c.args.points.now c.loop-point.point-index c.loop-point.invariant c.is_judged-2.ensures (omega arith)
