@@ -19,7 +19,8 @@ COMMAND_NAMES = (
 )
 ENTRY_NAMES = (
     '"memory", "free", "pool", "drop_pool", "buffer", "image", "destroy", "semaphore", "event", "submit", '
-    '"signal", "wait", "map", "unmap", "write", "read", "flush" or "invalidate"'
+    '"signal", "wait", "map", "unmap", "write", "read", "flush", "invalidate", "defrag", "pass", "end_pass" or '
+    '"end_defrag"'
 )
 ELEMENT_FORM = "[source stages, source accesses, destination stages, destination accesses]"
 
@@ -53,6 +54,7 @@ MISTAKES = [
     ('[["event",0x100000000]]', "found 4294967296"),
     (f'[["event",{"9" * 5000}]]', f"found {'9' * 40}.. (5000 characters)"),
     ('[["event","1"]]', 'found "1"'),
+    ('[["end_pass",2,[true],[]]]', "1:17: a buffer or image: expected a number from 0 to 4294967295; found true"),
     ('[["event",null]]', "found null"),
     (
         '[["read",1,\n0]]',

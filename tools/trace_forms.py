@@ -290,6 +290,7 @@ BATCH = row(
 BATCHES = Many("batches", BATCH)
 HOST_WAIT = row("wait", semaphore=SEMAPHORE, value=LARGE)
 IN_BUFFER = {"buffer": old("buffer"), "offset": LARGE}
+DEFRAGMENTATION = old("defragmentation")
 ENTRY = choice(
     "entry",
     memory={"id": new("memory object"), "memory type": MEMORY_TYPE, "size": LARGE},
@@ -320,5 +321,18 @@ ENTRY = choice(
     read={**IN_BUFFER, "size": LARGE},
     flush={**IN_BUFFER, "size": LENGTH},
     invalidate={**IN_BUFFER, "size": LENGTH},
+    defrag={
+        **{"id": new("defragmentation"), "pool": old("pool")},
+        **{"most bytes of a pass": LARGE, "most moves of a pass": SMALL},
+    },
+    **{"pass": {"defragmentation": DEFRAGMENTATION}},
+    end_pass={
+        "defragmentation": DEFRAGMENTATION,
+        "buffers and images that stay": Many("buffers and images that stay", old("buffer or image")),
+        "buffers and images that are destroyed": Many(
+            "buffers and images that are destroyed", old("buffer or image")
+        ),
+    },
+    end_defrag={"defragmentation": DEFRAGMENTATION},
 )
 TRACE = Many("entries", ENTRY)

@@ -128,7 +128,7 @@ class Reading:
     def array(self, node, form, where):
         """The values of an array."""
         if isinstance(form, Many):
-            what = a(form.item.what)
+            what = a(form.item.of if isinstance(form.item, Number) else form.item.what)
             return [self.value(each, form.item, what) for each in node.value]
         items = node.value
         lead = []
