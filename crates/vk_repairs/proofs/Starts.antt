@@ -1,11 +1,7 @@
 -- The points before the first fault, as a part of the points of a trace.
-use Rattle.std.proofs.Common.{◌≡◌, ℕ, ◌+◌, ◌⊎◌, inl, inr, List, [], ◌∷◌, ◌++◌, length, take, Bool, true, false, refl, ap, sym, ◌∙◌, subst, arith, Option, Some, None, slice_get}
-use Rattle.std.specs.Prelude.{option_map, IfSome, IsSomeAnd, IsTrue}
-use Rattle.std.specs.Bool.{OnTrue}
+use Rattle.std.proofs.Common.{◌≡◌, ℕ, ◌+◌, ◌⊎◌, inl, inr, List, [], ◌∷◌, length, take, refl, ap, sym, ◌∙◌, subst, arith, Option, Some, None, slice_get}
+use Rattle.std.specs.Prelude.{option_map, IfSome, IsSomeAnd}
 use Rattle.std.specs.List.{fold}
-use Rattle.std.proofs.lemmas.List.{take_more}
-use Rattle.std.proofs.lemmas.List.Sums.{fold-append}
-use Rattle.std.proofs.lemmas.Option.{slice_get_within, get_or_from_slice_get}
 use Rattle.vk_model.specs.declared.rule.At.{At}
 use Rattle.vk_model.specs.declared.rule.Rule.{Rule}
 use Rattle.vk_model.specs.Trace.Point.{Past, Point, at_of}
@@ -17,12 +13,10 @@ use Rattle.vk_model.proofs.Trace.Structure.{order_ordered}
 use Rattle.vk_model.specs.Rules.Fault.{Comes, newest, older}
 use Rattle.vk_model.proofs.Trace.Once.{come_once}
 use Rattle.vk_model.specs.declared.point.Point.{Point as Given}
-use Rattle.vk_model.specs.Trace.PointViews.{point_of, action_of}
+use Rattle.vk_model.specs.Trace.PointViews.{point_of}
 use Rattle.vk_queues.specs.PointViews.{past_of, add}
 use Rattle.vk_model.proofs.Trace.Older.{comes_has}
 use Rattle.vk_queues.proofs.NewPoints.{comes_at}
-use Rattle.vk_model.specs.Trace.Supported.{is_supported, is_supported_action}
-use Rattle.vk_model.proofs.Trace.Supporting.{supported-next}
 use Rattle.vk_repairs.specs.Starts.{sound_start, IsAmong}
 
 -- ---- the point of the first fault
@@ -88,14 +82,6 @@ module _ (ps : List Given) (k : ℕ) (p : Given) (at : slice_get ps k ≡ Some p
   pub among : (reported : At) → at_of (point_of p) ≡ reported → IsAmong (past_of ps) reported
   among reported same = record { point = point_of p; there = comes_has (past_of ps) (past_of (take k ps)) (point_of p) (comes_at [] ps k p at); same = same }
 
-  pub past_next : past_of (take (k + 1) ps) ≡ point_of p ∷ past_of (take k ps)
-  past_next =
-      ap past_of (take_more ps k p (slice_get_within ps k p at) ∙ ap (λ (y : Given). take k ps ++ y ∷ []) (get_or_from_slice_get ps k p p at))
-      ∙ fold-append add [] (take k ps) (p ∷ [])
-
-  pub supported_next : is_supported_action (action_of p.action) ≡ true → is_supported (past_of (take k ps)) ≡ true → is_supported (past_of (take (k + 1) ps)) ≡ true
-  supported_next now before = ap is_supported past_next ∙ supported-next (point_of p) (past_of (take k ps)) now before
-
 -- the place of a point that is reported as the first fault
 start_here : (ps : List Given) (k : ℕ) (f : At × Rule) (o : Option Given) → slice_get ps k ≡ o → IsOrdered (past_of ps) → fault (past_of ps) ≡ Some f → IsSomeAnd o (λ p. at_of (point_of p) ≡ f.0) → past_of (take k ps) ≡ sound_start (past_of ps)
 start_here ps k f None e ordered some there = absurd there
@@ -111,10 +97,6 @@ among_here ps k reported (Some p) e there = among ps k p e reported there
 
 pub among_found : (ps : List Given) (k : ℕ) (reported : At) → IsSomeAnd (slice_get ps k) (λ p. at_of (point_of p) ≡ reported) → IsAmong (past_of ps) reported
 among_found ps k reported there = among_here ps k reported (slice_get ps k) refl there
-
-pub none_supported : is_supported [] ≡ true
-unfolding is_supported
-none_supported = refl
 
 -- how many points a past of points has
 length_after : (ps : List Given) (past : Past) → length (fold add past ps) ≡ length ps + length past
@@ -136,10 +118,6 @@ module _ (t : List Entry) (ps : List Given) (laid : past_of ps ≡ order t) wher
 
   pub length_start : (start : List Given) → past_of start ≡ sound_start (past_of ps) → length start ≡ length (sound_start (order t))
   length_start start is = sym (length_past start) ∙ ap length (is ∙ ap sound_start laid)
-
-  pub supported_order : (given : List Given) (b : Bool) → b ≡ true → OnTrue b (IsTrue (is_supported (past_of given))) → given ≡ ps → IsTrue (is_supported (order t))
-  supported_order given true is claim same = subst (λ (past : Past). IsTrue (is_supported past)) (ap past_of same ∙ laid) claim
-  supported_order given false is claim same = absurd cc
 
 -- what is so of a value is so where it implies another
 pub if_some : {A : Type 0} (P Q : A → Type 0) (o : Option A) → ((x : A) → P x → Q x) → IfSome o P → IfSome o Q

@@ -1,4 +1,4 @@
-ghost use Rattle.std.specs.Prelude.{◌≡◌, ◌≤◌, ◌<◌, IfOk, IfSome, IsSomeAnd, IsTrue, length, slice_get, take};
+ghost use Rattle.std.specs.Prelude.{◌≡◌, ◌≤◌, ◌<◌, IfOk, IfSome, IsSomeAnd, length, slice_get, take};
 ghost use Rattle.std.specs.Bool.{OnTrue};
 ghost use Rattle.vk_model.specs.Trace.Point as spec;
 ghost use Rattle.vk_model.specs.Trace.Order.{order};
@@ -6,12 +6,11 @@ ghost use Rattle.vk_model.specs.Trace.Structure.{IsOrdered};
 ghost use Rattle.vk_model.specs.Rules.Table.{fault, first_fault};
 ghost use Rattle.vk_model.specs.Trace.PointViews.{point_of};
 ghost use Rattle.vk_queues.specs.PointViews.{past_of};
-ghost use Rattle.vk_model.specs.Trace.Supported as supported;
 ghost use Rattle.vk_validate.specs.Verdicts.{reported};
 ghost use Rattle.vk_repairs.specs.Starts.{sound_start, IsAmong};
 
 use std::alloc::{AllocError, Global};
-use vk_model::{Action, At, Entry, Point, Rule, is_supported};
+use vk_model::{Action, At, Entry, Point, Rule};
 use vk_queues::reference_order;
 use vk_validate::{Verdict, validate};
 
@@ -24,16 +23,12 @@ pub struct Judged<'a> {
     pub next: Option<(At, Rule)>,
 }
 
-/// What is so of a trace; none where it has a point of a form that isn't supported. The only error
-/// is want of memory.
+/// What is so of a trace. The only error is want of memory.
 pub fn judge<'a>(alloc: Global, trace: &'a [Entry]) -> Result<Option<Judged<'a>>, AllocError>
     ensures next { IfOk result (λ found. IfSome found (λ j. j.next ≡ first_fault trace.now)) }
     ensures sound { IfOk result (λ found. IfSome found (λ j. past_of j.sound.items ≡ sound_start (order trace.now))) }
 {
     let points = reference_order(alloc, trace)?;
-    if !are_supported(points.as_slice()) {
-        return Ok(None);
-    }
     let verdict = validate(alloc, trace)?;
     let next = fault_in(verdict);
     Ok(with_start(points, next))
@@ -60,18 +55,6 @@ fn fault_in(verdict: Verdict<'_>) -> Option<(At, Rule)>
         Verdict::Accepted(_) => None,
         Verdict::Refused(at, rule) => Some((at, rule)),
     }
-}
-
-/// Whether all points are of supported forms.
-fn are_supported(points: &[Point<'_>]) -> bool
-    ensures { OnTrue result (IsTrue (supported.is_supported (past_of points.now))) }
-{
-    for point in points {
-        if !is_supported(point) {
-            return false;
-        }
-    }
-    true
 }
 
 /// How many points come before the first fault.
