@@ -2,8 +2,6 @@ ghost use Rattle.std.specs.Prelude.{◌≡◌, ◌↔◌, ◌⊎◌, ◌≤◌, 
 ghost use Rattle.std.specs.Io.KnownBytes.{Appends, Keeps};
 ghost use Rattle.vk_model.specs.declared.entry.Entry.{Entry};
 ghost use Rattle.vk_model.specs.Rules.Table.{first_fault};
-ghost use Rattle.vk_model.specs.Trace.Order.{order};
-ghost use Rattle.vk_model.specs.Trace.Supported.{is_supported};
 ghost use Rattle.vk_trace.specs.Trace.{IsTrace};
 ghost use Rattle.vk_trace.specs.Watching.{counted};
 ghost use Rattle.vk_trace.specs.Streams.{IsBeforeWriting, IsJudged};
@@ -143,27 +141,14 @@ fn explained(
     requires { IsTrace input.now trace.now }
     ensures { IfOk result (λ e. Explains form input.now (string_bytes e.text) e.judgment) }
 {
-    let fault = fault_of_trace(alloc, input, trace)?;
+    let fault = fault_of(alloc, trace)?;
     let text = text_of(alloc, input, trace, fault, form)?;
     let judgment = judgment_by(fault);
     Ok(Explanation { judgment, text })
 }
 
-/// The first fault of the trace in the bytes of an input.
-pub fn fault_of_trace(
-    alloc: Global,
-    _input: &[u8],
-    trace: &[Entry],
-) -> Result<Option<(At, Rule)>, AllocError>
-    requires { IsTrace _input.now trace.now }
-    ensures { IfOk result (λ fault. fault ≡ first_fault trace.now) }
-{
-    fault_of(alloc, trace)
-}
-
 /// The first fault of a trace.
-fn fault_of(alloc: Global, trace: &[Entry]) -> Result<Option<(At, Rule)>, AllocError>
-    requires { IsTrue (is_supported (order trace.now)) }
+pub fn fault_of(alloc: Global, trace: &[Entry]) -> Result<Option<(At, Rule)>, AllocError>
     ensures { IfOk result (λ fault. fault ≡ first_fault trace.now) }
 {
     match validate(alloc, trace)? {

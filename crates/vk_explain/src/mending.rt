@@ -4,7 +4,7 @@ ghost use Rattle.vk_trace.specs.Trace.{IsTrace};
 ghost use Rattle.vk_explain.specs.Explained.{Answers, IsJudgedTrace};
 ghost use Rattle.vk_explain.specs.declared.forms.Wanted.TheVariants.{Repaired};
 
-use crate::explaining::{Explanation, Judgment, fault_of_trace, judgment_by};
+use crate::explaining::{Explanation, Judgment, fault_of, judgment_by};
 use crate::forms::Form;
 use crate::mistakes::no_trace;
 use crate::repairs::{RepairSearch, sought};
@@ -35,7 +35,7 @@ fn mended(alloc: Global, input: &[u8], trace: Vec<Entry>) -> Result<Explanation,
     requires { IsTrace input.now trace.items }
     ensures { IfOk result (λ e. Answers Repaired input.now (string_bytes e.text) e.judgment) }
 {
-    let fault = fault_of_trace(alloc, input, trace.as_slice())?;
+    let fault = fault_of(alloc, trace.as_slice())?;
     let given = unchanged(alloc, input, trace.as_slice(), fault)?;
     let changed = after_repairs(alloc, trace, fault)?;
     let text = trace_json(alloc, changed.as_slice())?;
@@ -51,7 +51,7 @@ fn judged(alloc: Global, text: &[u8]) -> Result<Option<Judgment>, AllocError>
 {
     match read_trace(alloc, text) {
         Ok(trace) => {
-            let fault = fault_of_trace(alloc, text, trace.as_slice())?;
+            let fault = fault_of(alloc, trace.as_slice())?;
             Ok(Some(judgment_by(fault)))
         }
         Err(ReadTraceError::NotTrace) => Ok(None),
