@@ -1,8 +1,6 @@
 ghost use Rattle.std.specs.Prelude.{◌≡◌, ◌↔◌, ◌⊎◌, ◌≤◌, ◌<◌, ◌+◌, ℕ, List, take, length, IfOk, IfErr, IfSome, IsTrue, string_bytes, false};
 ghost use Rattle.std.specs.Io.KnownBytes.{Appends, Keeps};
 ghost use Rattle.vk_model.specs.declared.entry.Entry.{Entry};
-ghost use Rattle.vk_model.specs.Trace.Order.{order};
-ghost use Rattle.vk_model.specs.Trace.Supported.{is_supported};
 ghost use Rattle.vk_trace.specs.declared.printing.Outcome.{Outcome};
 ghost use Rattle.vk_trace.specs.Trace.{IsTrace};
 ghost use Rattle.vk_trace.specs.Watching.{counted};
@@ -132,7 +130,6 @@ fn outcome_of<S: Scheduler>(
     config: Config,
     sched: &mut S,
 ) -> Result<Outcome, AllocError>
-    requires { IsTrue (is_supported (order entries.now)) }
     ensures answer { IfOk result (IsAnswer config entries.now) }
     ensures view { IfOk result (λ outcome. Leaves S.answer S.next entries.now outcome (S.held sched.old) (S.held sched.new)) }
 {

@@ -1,16 +1,12 @@
 use Rattle.std.specs.Prelude.{string_bytes}
 use Rattle.std.proofs.lemmas.Result.{err_from_is_err_and}
 use Rattle.vk_run.specs.Run.{Reports}
-use Rattle.vk_trace.proofs.SupportedLemmas.{trace_supported}
 use Rattle.vk_run.proofs.running.answer_of.Goals as goal
 
 pub returns-in_err-entries-clause-no_trace : goal.returns-in_err-entries-clause-no_trace
 returns-in_err-entries-clause-no_trace g c = λ e.
     let p = err_from_is_err_and c.from_residual.result c.from_residual.ensures.1 in
     c.in_err-entries.ensures.none (cc (p.1, p.2, e))
-
-pub outcome_of-requires : goal.outcome_of-requires
-outcome_of-requires g c = rw c.deref.ensures.value (trace_supported c.args.input.now c.in_ok-entries.entries.items c.in_ok-entries.ensures.ok)
 
 pub returns-clause-answered : goal.returns-clause-answered
 returns-clause-answered g c =

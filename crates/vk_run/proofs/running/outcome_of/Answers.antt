@@ -18,7 +18,7 @@ returns-in-Ok-clause-answer g c =
     replayed c.args.config c.args.entries.now c.in-Ok.field-0.reads c.in-Ok.field-0.stop (rw same at c.in-Ok.ensures.sound) (let e = rw same at c.in-Ok.ensures.stop in (e.allocated, e.ends)) (rw same at c.in-Ok.ensures.meaning)
 
 pub returns-in-Refused-clause-answer : goal.returns-in-Refused-clause-answer
-returns-in-Refused-clause-answer g c = sym (rw c.in-Refused.is at c.in_ok-at.ensures.exact c.requires)
+returns-in-Refused-clause-answer g c = sym (rw c.in-Refused.is at c.in_ok-at.ensures.exact)
 
 pub returns-in-Ok-clause-view : goal.returns-in-Ok-clause-view
 returns-in-Ok-clause-view g c =
