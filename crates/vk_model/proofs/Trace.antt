@@ -4,4 +4,3 @@ pub mod Structure
 pub mod Older
 pub mod Once
 pub mod PlainStructure
-pub mod Supporting

@@ -4,4 +4,3 @@ pub mod Order
 pub mod Structure
 pub mod Image
 pub mod PointViews
-pub mod Supported

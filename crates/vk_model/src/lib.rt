@@ -19,7 +19,6 @@ mod sequence;
 mod statistics;
 mod suballoc;
 mod subresource;
-mod supported;
 
 pub use command::{
     BufferCopy, BufferElement, BufferImageCopy, Cmd, Dependency, Element, Families, ImageCopy,
@@ -54,4 +53,3 @@ pub use sequence::Sequence;
 pub use statistics::Statistics;
 pub use suballoc::{SubFault, Suballoc, TakenRange};
 pub use subresource::SubresourceLayout;
-pub use supported::is_supported;
