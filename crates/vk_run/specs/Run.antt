@@ -4,7 +4,7 @@ use Rattle.vk_model.specs.Memory.HeapSizes.{HeapSizes}
 use Rattle.vk_model.specs.declared.entry.Entry.{Entry}
 use Rattle.vk_model.specs.Rules.Table.{first_fault}
 use Rattle.vk_model.specs.World.Meaning.{meaning}
-use Rattle.vk_model.specs.Memory.Allocations.{Allocated, EndsOn}
+use Rattle.vk_model.specs.Memory.Allocations.{Allocated, EndsOn, EndsOnWith}
 use Rattle.vk_model.specs.Run.Runs.{start}
 use Rattle.vk_model.specs.Run.Picks.{trace_picks}
 use Rattle.vk_trace.specs.declared.printing.Outcome.{Outcome}
@@ -37,8 +37,8 @@ pub record Reports (config : HeapSizes) (input text : List ℕ) (outcome : Outco
   pub answer : IsAnswer config entries outcome
   pub lines : text ≡ lines_of outcome
 
-module _ (answer : List ℕ → ℕ → ℕ) (next : List ℕ → ℕ → List ℕ) where
-  -- What a scheduler holds after an outcome: where the trace was refused it wasn't asked; else it was asked for each pick before an entry, up to and with one that found no room (profile).
+module _ (config : HeapSizes) (answer : List ℕ → ℕ → ℕ) (next : List ℕ → ℕ → List ℕ) where
+  -- What a scheduler holds after an outcome: where the trace was refused it wasn't asked; else it was asked for each pick before an entry, up to and with one that found no room, on some device on which a replay of the trace ends there, and on which a pass has as many parts to copy as its moves have (profile).
   abbrev pub Leaves : List Entry → Outcome → List ℕ → List ℕ → Type 0
   Leaves t (Refused at rule) before after = after ≡ before
-  Leaves t (Reads reads stop) before after = after ≡ (trace_picks answer next (λ e. 0) stop (start t) before t).held
+  Leaves t (Reads reads stop) before after = (parts : ℕ → ℕ) × (d : Allocated) × EndsOnWith parts config t stop d × (after ≡ (trace_picks answer next parts stop (start t) before t).held)

@@ -10,7 +10,7 @@ ghost use Rattle.vk_run.specs.Run.{Reports, IsAnswer, Leaves, status_of};
 use std::alloc::{AllocError, Global};
 use std::io::{Read, Write};
 use vk_device::{Replayed, replay};
-use vk_model::{Config, Entry, Scheduler};
+use vk_model::{Config, Entry, Scheduler, parts_follow};
 use vk_trace::{Outcome, ReadTraceError, RunError, Watched, read_all, read_trace, text, write_all};
 use vk_validate::{Verdict, validate};
 
@@ -50,7 +50,7 @@ pub fn run<R: Read, W: Write, S: Scheduler>(
     // The bytes that were read are a trace, the answer to it is written, and nothing else is.
     ensures done { IfOk result (λ status. IfSome (R.remaining reader.old.inner) (λ input.
         (text : List ℕ) × (outcome : Outcome) × (r : Reports config input text outcome) × (status ≡ status_of outcome)
-        × Leaves S.answer S.next r.entries outcome (S.held sched.old) (S.held sched.new)
+        × Leaves config S.answer S.next r.entries outcome (S.held sched.old) (S.held sched.new)
         × Appends (W.contents writer.old.inner) (W.contents writer.new.inner) text
         × (writer.new.calls ≤ writer.old.calls + length text))) }
     // There is no trace only where the bytes are none.
@@ -102,7 +102,7 @@ pub fn answer_of<S: Scheduler>(
     sched: &mut S,
 ) -> Result<Answer, ReadTraceError>
     ensures answered { IfOk result (λ a. (outcome : Outcome) × (r : Reports config input.now (string_bytes a.text) outcome) × (a.status ≡ status_of outcome)
-        × Leaves S.answer S.next r.entries outcome (S.held sched.old) (S.held sched.new)) }
+        × Leaves config S.answer S.next r.entries outcome (S.held sched.old) (S.held sched.new)) }
     ensures no_trace { result ≡ Err ReadTraceError.NotTrace → (t : List Entry) → IsTrace input.now t → ⊥ }
     ensures view { result ≡ Err ReadTraceError.NotTrace → S.held sched.new ≡ S.held sched.old }
 {
@@ -131,8 +131,9 @@ fn outcome_of<S: Scheduler>(
     sched: &mut S,
 ) -> Result<Outcome, AllocError>
     ensures answer { IfOk result (IsAnswer config entries.now) }
-    ensures view { IfOk result (λ outcome. Leaves S.answer S.next entries.now outcome (S.held sched.old) (S.held sched.new)) }
+    ensures view { IfOk result (λ outcome. Leaves config S.answer S.next entries.now outcome (S.held sched.old) (S.held sched.new)) }
 {
+    parts_follow();
     match validate(alloc, entries)? {
         Verdict::Refused(at, rule) => Ok(Outcome::Refused(at, rule)),
         Verdict::Accepted(accepted) => match replay(alloc, &accepted, config, sched) {

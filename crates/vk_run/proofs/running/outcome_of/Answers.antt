@@ -15,7 +15,7 @@ replayed config t reads (Some n) sound ends means = (sound, ends, means)
 pub returns-in-Ok-clause-answer : goal.returns-in-Ok-clause-answer
 returns-in-Ok-clause-answer g c =
     let same : c.in-Accepted.accepted ≡ c.args.entries.now = rw c.in-Accepted.is at c.in_ok-at.ensures.same in
-    replayed c.args.config c.args.entries.now c.in-Ok.field-0.reads c.in-Ok.field-0.stop (rw same at c.in-Ok.ensures.sound) (let e = rw same at c.in-Ok.ensures.stop in (e.allocated, e.ends)) (rw same at c.in-Ok.ensures.meaning)
+    replayed c.args.config c.args.entries.now c.in-Ok.field-0.reads c.in-Ok.field-0.stop (rw same at c.in-Ok.ensures.sound) (let e = rw same at c.in-Ok.ensures.stop in (e.allocated, c.parts_follow.ensures.ends e.parts c.args.config c.args.entries.now c.in-Ok.field-0.stop e.allocated e.ends)) (rw same at c.in-Ok.ensures.meaning)
 
 pub returns-in-Refused-clause-answer : goal.returns-in-Refused-clause-answer
 returns-in-Refused-clause-answer g c = sym (rw c.in-Refused.is at c.in_ok-at.ensures.exact)
@@ -23,4 +23,5 @@ returns-in-Refused-clause-answer g c = sym (rw c.in-Refused.is at c.in_ok-at.ens
 pub returns-in-Ok-clause-view : goal.returns-in-Ok-clause-view
 returns-in-Ok-clause-view g c =
     let same : c.in-Accepted.accepted ≡ c.args.entries.now = rw c.in-Accepted.is at c.in_ok-at.ensures.same in
-    (rw same at c.in-Ok.ensures.led).1
+    let e = rw same at c.in-Ok.ensures.stop in
+    (e.parts, e.allocated, e.ends, e.led.1)

@@ -20,7 +20,7 @@ returns-in-Ok-clause-done g c =
     let reports = answered.1 in
     let text = string_bytes c.in-Ok.answer.text in
     let step : (input : List ℕ) → input ≡ c.in_ok-input.input.items → (bytes : List ℕ) × (outcome : Outcome) × (r : Reports c.args.config input bytes outcome) × (c.in-Ok.answer.status ≡ status_of outcome)
-    × Leaves g.S.Scheduler.answer g.S.Scheduler.next r.entries outcome (g.S.Scheduler.held c.args.sched.now) (g.S.Scheduler.held c.answer_of.new.sched) × Appends (g.W.Write.contents c.args.writer.now.inner) (g.W.Write.contents c.write_all.new.writer.inner) bytes × (c.write_all.new.writer.calls ≤ c.args.writer.now.calls + length bytes) =
+    × Leaves c.args.config g.S.Scheduler.answer g.S.Scheduler.next r.entries outcome (g.S.Scheduler.held c.args.sched.now) (g.S.Scheduler.held c.answer_of.new.sched) × Appends (g.W.Write.contents c.args.writer.now.inner) (g.W.Write.contents c.write_all.new.writer.inner) bytes × (c.write_all.new.writer.calls ≤ c.args.writer.now.calls + length bytes) =
     λ input same.
     let reported : Reports c.args.config input text answered.0 = record {
       entries = reports.entries;
