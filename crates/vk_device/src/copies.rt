@@ -1,4 +1,4 @@
-ghost use Rattle.std.specs.Prelude.{◌≡◌, ◌⊎◌, ◌<◌, List, length, Some, IfErr, IsTrue, OnErr, OnOk, slice_get};
+ghost use Rattle.std.specs.Prelude.{◌≡◌, ◌⊎◌, ◌<◌, List, length, Some, IfErr, IfOk, IsTrue, OnErr, OnOk, slice_get};
 ghost use Rattle.vk_model.specs.declared.entry.Entry.{Entry};
 ghost use Rattle.vk_model.specs.Run.Runs.{Step, Stage};
 ghost use Rattle.vk_model.specs.Run.Runs.{parts_left as stage_parts};
@@ -10,6 +10,7 @@ ghost use Rattle.vk_device.specs.declared.applied.ApplyError.TheVariants.{Failed
 
 use crate::applied::ApplyError;
 use crate::device::Device;
+use std::alloc::AllocError;
 use vk_laws::direct_runs_go_on;
 
 impl<'a> Device<'a> {
@@ -42,6 +43,17 @@ impl<'a> Device<'a> {
         ensures { slice_get (parts_left self.now.passes) place ≡ Some result }
     {
         self.passes.nth_part(place)
+    }
+
+    /// The parts of the open pass that are left, rising. The only error is want of memory.
+    pub fn copies(&self) -> Result<Vec<u64>, AllocError>
+        ensures { IfOk result (λ parts. parts.items ≡ parts_left self.now.passes) }
+    {
+        let mut parts = Vec::new(self.alloc);
+        for place in 0..self.copies_left() {
+            parts.push(self.nth_copy(place))?;
+        }
+        Ok(parts)
     }
 
     /// Copies a part of the open pass that is left, and no other: no byte of a resource changes, and

@@ -34,7 +34,7 @@ use vk_resources::{Applied, Resources, Spot, Work};
 /// that was started run in pieces, in any order that the rules allow: a scheduler picks it.
 #[derive(Drop)]
 pub struct Device<'a> {
-    alloc: Global,
+    pub(crate) alloc: Global,
     /// Its buffers and their memory.
     pub(crate) resources: Resources,
     /// The defragmentations that have begun.
