@@ -1,8 +1,14 @@
+ghost use Rattle.std.specs.Prelude.{List};
+ghost use Rattle.vk_model.specs.declared.entry.Entry.{Entry as AnyEntry};
+ghost use Rattle.vk_model.specs.Run.Runs.{Step, Stage};
+ghost use Rattle.vk_device.specs.Led.{Led};
+
 use super::expect::expect;
-use super::replays::replayed;
+use super::replays::{accepted, config, replayed};
 use std::alloc::Global;
 use std::test::Fail;
-use vk_device::Device;
+use vk_device::{Device, replay};
+use vk_model::Last;
 use vk_trace::read_trace;
 
 /// Eight buffers of 1,024 bytes in a pool of two blocks of 4,096; the host writes the last one.
@@ -49,5 +55,106 @@ fn buffers_fill_blocks(rt: HostRuntime) -> Result<(), Fail> {
         None,
     ];
     expect(&rt, "the buffers", seen_in_blocks(rt.alloc())?, wanted);
+    Ok(())
+}
+
+/// A pass is open in which a buffer of two parts moves down by 8,192 bytes.
+const TWO_PARTS: &str = r#"[["pool",1,"tlsf",1,65536,1],
+["buffer",2,8192,3,"exclusive",["pool",1]],["buffer",3,8192,3,"exclusive",["pool",1]],
+["map",3],["write",3,4096,"abcd"],["destroy",2],["defrag",4,1,0,0],["pass",4]]"#;
+
+/// Two bytes of memory, 4,096 before a resource.
+fn bytes_below(device: &Device<'_>, resource: u32) -> Option<[u8; 2]> {
+    let spot = device.spot(resource)?;
+    let at = spot.offset.checked_sub(4096)?;
+    if spot.size < 2 {
+        return None;
+    }
+    let mut bytes = [0, 0];
+    device.peek(spot.memory, at, &mut bytes);
+    Some(bytes)
+}
+
+/// How many parts are left, the last of them, and two bytes where it goes, before and after it is
+/// copied, and how many are left then.
+type Copied = (u64, u64, [Option<[u8; 2]>; 2], u64);
+
+/// Copies the last part that is left.
+fn copy_last(device: &mut Device<'_>) -> Result<Copied, Fail>
+    requires { (t : List AnyEntry) × (steps : List Step) × (s : Stage) × Led t steps s device.old }
+{
+    let left = device.copies_left();
+    if left == 0 {
+        return Err("nothing is left")?;
+    }
+    let part = device.nth_copy(left - 1);
+    let before = bytes_below(device, 3);
+    device.copy(part).map_err(|_| "the device has failed")?;
+    let bytes = [before, bytes_below(device, 3)];
+    Ok((left, part, bytes, device.copies_left()))
+}
+
+fn second_part(alloc: Global) -> Result<Copied, Fail> {
+    let entries = read_trace(alloc, TWO_PARTS.as_bytes())?;
+    let accepted = accepted(alloc, &entries)?;
+    let mut replayed = replay(alloc, &accepted, config(), &mut Last)?;
+    copy_last(&mut replayed.device)
+}
+
+/// Where the last option is picked, entries come first, and both parts are left. A part that is copied
+/// is at its new place as well.
+#[test]
+fn a_part_is_copied(rt: HostRuntime) -> Result<(), Fail> {
+    let bytes = [Some([0xcd, 0xcd]), Some([0xab, 0xcd])];
+    expect(&rt, "the part", second_part(rt.alloc())?, (2, 1, bytes, 1));
+    Ok(())
+}
+
+/// Where buffers 17 and 15 lie: in which memory object, and where it begins there.
+type Places = [Option<(u64, u64)>; 2];
+
+/// Each second of eight buffers in two blocks ends; then a pass begins, and ends without limits, with
+/// one of bytes, with one of moves, or where the first buffer stays.
+static MOVED: [(&str, Places); 5] = [
+    (
+        r#"[["pool",1,"tlsf",1,4096,2],["buffer",10,1024,3,"exclusive",["pool",1]],["buffer",11,1024,3,"exclusive",["pool",1]],["buffer",12,1024,3,"exclusive",["pool",1]],["buffer",13,1024,3,"exclusive",["pool",1]],["buffer",14,1024,3,"exclusive",["pool",1]],["buffer",15,1024,3,"exclusive",["pool",1]],["buffer",16,1024,3,"exclusive",["pool",1]],["buffer",17,1024,3,"exclusive",["pool",1]],["destroy",10],["destroy",12],["destroy",14],["destroy",16],["defrag",2,1,0,0],["pass",2]]"#,
+        [Some((1, 3072)), Some((1, 1024))],
+    ),
+    (
+        r#"[["pool",1,"tlsf",1,4096,2],["buffer",10,1024,3,"exclusive",["pool",1]],["buffer",11,1024,3,"exclusive",["pool",1]],["buffer",12,1024,3,"exclusive",["pool",1]],["buffer",13,1024,3,"exclusive",["pool",1]],["buffer",14,1024,3,"exclusive",["pool",1]],["buffer",15,1024,3,"exclusive",["pool",1]],["buffer",16,1024,3,"exclusive",["pool",1]],["buffer",17,1024,3,"exclusive",["pool",1]],["destroy",10],["destroy",12],["destroy",14],["destroy",16],["defrag",2,1,0,0],["pass",2],["end_pass",2,[],[]]]"#,
+        [Some((0, 0)), Some((0, 2048))],
+    ),
+    (
+        r#"[["pool",1,"tlsf",1,4096,2],["buffer",10,1024,3,"exclusive",["pool",1]],["buffer",11,1024,3,"exclusive",["pool",1]],["buffer",12,1024,3,"exclusive",["pool",1]],["buffer",13,1024,3,"exclusive",["pool",1]],["buffer",14,1024,3,"exclusive",["pool",1]],["buffer",15,1024,3,"exclusive",["pool",1]],["buffer",16,1024,3,"exclusive",["pool",1]],["buffer",17,1024,3,"exclusive",["pool",1]],["destroy",10],["destroy",12],["destroy",14],["destroy",16],["defrag",2,1,1024,0],["pass",2],["end_pass",2,[],[]]]"#,
+        [Some((0, 0)), Some((1, 1024))],
+    ),
+    (
+        r#"[["pool",1,"tlsf",1,4096,2],["buffer",10,1024,3,"exclusive",["pool",1]],["buffer",11,1024,3,"exclusive",["pool",1]],["buffer",12,1024,3,"exclusive",["pool",1]],["buffer",13,1024,3,"exclusive",["pool",1]],["buffer",14,1024,3,"exclusive",["pool",1]],["buffer",15,1024,3,"exclusive",["pool",1]],["buffer",16,1024,3,"exclusive",["pool",1]],["buffer",17,1024,3,"exclusive",["pool",1]],["destroy",10],["destroy",12],["destroy",14],["destroy",16],["defrag",2,1,0,1],["pass",2],["end_pass",2,[],[]]]"#,
+        [Some((0, 0)), Some((1, 1024))],
+    ),
+    (
+        r#"[["pool",1,"tlsf",1,4096,2],["buffer",10,1024,3,"exclusive",["pool",1]],["buffer",11,1024,3,"exclusive",["pool",1]],["buffer",12,1024,3,"exclusive",["pool",1]],["buffer",13,1024,3,"exclusive",["pool",1]],["buffer",14,1024,3,"exclusive",["pool",1]],["buffer",15,1024,3,"exclusive",["pool",1]],["buffer",16,1024,3,"exclusive",["pool",1]],["buffer",17,1024,3,"exclusive",["pool",1]],["destroy",10],["destroy",12],["destroy",14],["destroy",16],["defrag",2,1,0,0],["pass",2],["end_pass",2,[17],[]]]"#,
+        [Some((1, 3072)), Some((0, 2048))],
+    ),
+];
+
+fn place(device: &Device<'_>, resource: u32) -> Option<(u64, u64)> {
+    let spot = device.spot(resource)?;
+    Some((spot.memory, spot.offset))
+}
+
+fn places(alloc: Global, text: &str) -> Result<Places, Fail> {
+    let entries = read_trace(alloc, text.as_bytes())?;
+    let replayed = replayed(alloc, &entries)?;
+    let device = &replayed.device;
+    Ok([place(device, 17), place(device, 15)])
+}
+
+/// What moves lies at its new place when the pass has ended, and not before.
+#[test]
+fn passes_move_buffers(rt: HostRuntime) -> Result<(), Fail> {
+    for row in &MOVED {
+        expect(&rt, row.0, places(rt.alloc(), row.0)?, row.1);
+    }
     Ok(())
 }

@@ -7,10 +7,12 @@ use vk_run::run;
 use vk_trace::{RunError, Watched};
 
 mod image_table;
+mod pass_table;
 mod pool_table;
 pub mod table;
 
 use image_table::IMAGES;
+use pass_table::PASSES;
 use pool_table::POOLS;
 use table::{
     CACHED_ACCESSES, CACHES, Ending, FILL_AND_READ, NO_MEMORY, NO_TRACE, NO_TRACES, REPLAYED, Row,
@@ -125,6 +127,11 @@ fn images(rt: HostRuntime) {
 #[test]
 fn pools(rt: HostRuntime) {
     expect_rows(&rt, rt.alloc(), &POOLS);
+}
+
+#[test]
+fn passes(rt: HostRuntime) {
+    expect_rows(&rt, rt.alloc(), &PASSES);
 }
 
 /// Some texts are no trace, nor are bytes that are no text, nor is a front of a trace.

@@ -335,17 +335,18 @@ pub static CACHES: [Row; 12] = [
     ),
 ];
 
-/// Texts that are no trace, or none yet.
-pub static NO_TRACES: [&str; 57] = [
+/// Texts that are no trace.
+pub static NO_TRACES: [&str; 58] = [
     r#"[["image",1,"R8",8,8,1,1,"optimal",3,"exclusive",["dedicated",0]]]"#,
     r#"[["submit",0,[[[],[["clear",1,7,[0,0,0],[[0,1,0,1]]]],[]]]]]"#,
     r#"[["submit",0,[[[],[["barrier",[],[],[[0,0,4096,4096,0,0,2,0,7,0,1,0,1]]]],[]]]]]"#,
-    r#"[["pool",1,"linear",1,4096,1],["defrag",2,1,0,0]]"#,
+    r#"[["defrag",2,1,0]]"#,
+    r#"[["pass",2,1]]"#,
     r#"[["pool",1,"tlsf",1,4096]]"#,
     r#"[["pool",1,"Tlsf",1,4096,2]]"#,
     r#"[["pool",1,"tlsf",1,4096,2],["drop_pool",1,1]]"#,
     r#"[["buffer",1,16,3,"exclusive",["pool_upper",1,0]]]"#,
-    r#"[["pool",1,"tlsf",2,4096,2],["buffer",2,64,1,"exclusive",["pool",1]],["buffer",3,64,1,"exclusive",["pool",1]],["map",3],["write",3,0,"aa"],["destroy",2],["defrag",4,1,0,0],["pass",4],["end_pass",4,[],[]],["read",3,0,1]]"#,
+    r#"[["end_pass",2,3,[]]]"#,
     r#"[["semaphore",4294967296,0]]"#,
     r#"[["semaphore",-1,0]]"#,
     r#"[["semaphore",1.0,0]]"#,
