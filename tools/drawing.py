@@ -6,6 +6,7 @@ slips: items that break one rule, drawn with each trace, and go in all the same.
 """
 
 from drawn_courses import Courses
+from drawn_misuses import Misuses
 from drawn_pools import Pools
 from growing import EVENTS, HOST_SEMAPHORE, MEMORIES, NEVER_SIGNALED, POOLS, SEMAPHORES, SMALL_HEAP, UNKNOWN
 from points import ATOM
@@ -14,7 +15,7 @@ from slow_reading import read
 SIZES = (16, 60, 100, 100, 200, 1_000, 4_096, 5_000, 9_000, 12_288, 20_000, 20_000)
 
 
-class Drawing(Courses, Pools):
+class Drawing(Courses, Pools, Misuses):
     """A trace that grows by random entries."""
 
     # ---- objects
@@ -103,6 +104,8 @@ class Drawing(Courses, Pools):
                 self.never_started()
             if self.chance(0.2 if self.heaps[1] == SMALL_HEAP else 0.03):
                 self.random.choice((self.new_buffer, self.new_image))()
+        if self.reading.fault is None and self.slips > 0 and self.chance(0.8):
+            self.misuse()
         if self.chance(0.9):
             self.host_signal()
             self.finish_queues()
@@ -122,7 +125,9 @@ class Drawing(Courses, Pools):
         steps += [self.clean, self.forget, self.odd_reach, self.end_named, *[self.hand_over] * 4]
         if self.pictures:
             steps += [self.change_image] * 14 + [self.read_image] * 6 + [self.end_image]
-        steps += [self.go_round]
+        steps += [self.go_round, self.comb, self.comb]
+        steps += [self.defragment] * 3 + [self.begin_pass] * 3 + [self.end_pass] * 8
+        steps += [self.read_moving] * 6 + [self.end_defragmentation]
         if self.reading.live("pool"):
             steps += [self.fill_pool, self.fill_pool, *[self.renew] * 8, self.end_pool]
         steps += [self.read_back, self.read_back, self.upload, self.upload, self.lose, self.write_over]
@@ -143,7 +148,10 @@ class Drawing(Courses, Pools):
             "BIND_RANGE": [self.new_buffer],
             "ALIASED": [self.new_buffer, self.new_image],
             "POOL_SIZE": [self.new_buffer, self.fill_pool],
-            "POOL_KIND": [self.new_buffer, self.fill_pool],
+            "POOL_KIND": [self.new_buffer, self.fill_pool, self.defragment],
+            "PASS_STATE": [self.defragment, self.end_pass, self.end_defragmentation, self.end_buffer],
+            "PASS_BUSY": [self.comb, self.begin_pass, self.read_moving, self.end_pass],
+            "PASS_WRITE": [self.comb, self.host_write, self.submit],
         }
         if self.pictures:
             of_images = ("LAYOUT", "OLD_LAYOUT", "FORMAT", "SUBRESOURCE", "OVERLAP", "OWNER_WHOLE")

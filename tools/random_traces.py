@@ -40,6 +40,7 @@ SHRINKING_SECONDS = 60
 NAMES = (
     *("memory", "write", "flush", "invalidate", "update", "copy"),
     *("destroy", "free", "unmap", "pool", "drop_pool"),
+    *("defrag", "pass", "end_pass", "end_defrag"),
 )
 
 

@@ -9,6 +9,7 @@ from image_rules import bad_layout, bad_subresource, image_overlaps, misplaced_r
 from image_rules import regions_past, texels_differ
 from order_rules import event_dependency, event_state, is_partial, owner_pair, signal_order
 from order_rules import signal_value, stage
+from pass_rules import PASSES, ends_mapped, listed_twice, not_of_pool, of_linear, pass_busy, pass_state, pass_write
 from points import ATOM, is_on_image, named_by
 from shapes import Shape
 from slow_room import in_pool
@@ -25,7 +26,7 @@ NAMED_KINDS = {
 
 
 def new_id(reading, point, own):
-    creating = ("buffer", "image", "memory", "pool", "semaphore", "event")
+    creating = ("buffer", "image", "memory", "pool", "semaphore", "event", "defrag")
     makes = point.kind == "host" and point.content[0] in creating
     return makes and point.content[1] in reading.made
 
@@ -46,8 +47,12 @@ def asked(point):
     if content[0] in ("buffer", "image"):
         name, thing = place_of(content)[:2]
         return [] if name == "dedicated" else [(thing, "memory" if name == "memory" else "pool")]
+    if content[0] in PASSES:
+        return [(content[1], "defrag")]
     if content[0] in kinds:
         return [(content[1], kinds[content[0]])]
+    if content[0] == "defrag":
+        return [(content[2], "pool")]
     if content[0] == "signal":
         return [(content[1], "semaphore")]
     if content[0] == "wait":
@@ -57,7 +62,9 @@ def asked(point):
 
 def live_id(reading, point, own):
     until = None if point.kind == "host" else point.entry
-    return any(not reading.is_live(thing, kind, until) for thing, kind in asked(point))
+    if any(not reading.is_live(thing, kind, until) for thing, kind in asked(point)):
+        return True
+    return point.kind == "host" and point.content[0] == "end_pass" and not_of_pool(reading, point.content)
 
 
 def host_entry(name):
@@ -286,6 +293,7 @@ RULES = [
         either(
             command("copy")(overlaps),
             *(command(name)(image_overlaps) for name in (*NAMED_KINDS, "barrier")),
+            host_entry("end_pass")(listed_twice),
         ),
     ),
     ("FORMAT", command("copy_image")(texels_differ)),
@@ -306,10 +314,14 @@ RULES = [
             *(host_entry(name)(lambda r, e: not r.is_mapped(e[1])) for name in NEED_A_MAPPING),
             host_entry("map")(bad_map),
             host_entry("destroy")(bad_end),
+            host_entry("end_pass")(ends_mapped),
         ),
     ),
     ("HOST_VISIBLE", host_entry("map")(lambda r, e: r.type_of(e[1]) == 0)),
-    ("POOL_KIND", resource(no_upper_end)),
+    ("POOL_KIND", either(resource(no_upper_end), host_entry("defrag")(of_linear))),
+    ("PASS_STATE", pass_state),
+    ("PASS_BUSY", pass_busy),
+    ("PASS_WRITE", pass_write),
     ("HAZARD_WAR", hazard_war),
     ("HAZARD_RAW", hazard_raw),
     ("HAZARD_WAW", hazard_waw),

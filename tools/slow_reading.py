@@ -11,6 +11,7 @@ from entries import place_of, sharing_of
 from points import ATOM, Batch, Point, family_of, is_on_image, named_by, reached, same_place
 from rules import RULES
 from shapes import Shape, box_of, buffer_rows, destination_box, source_box
+from slow_passes import defragment
 from slow_room import Room
 
 
@@ -47,6 +48,8 @@ class Reading:
         self.reads_made = []
         self.waiting = []
         self.reads = []
+        # The defragmentation whose pass is open.
+        self.in_pass = None
         self.fault = None
         self.stop = None
 
@@ -55,13 +58,8 @@ class Reading:
         other = Reading(self.room.free)
         for name, value in vars(self).items():
             setattr(other, name, value.copy() if hasattr(value, "copy") else value)
-        other.maps = self.maps.copy()
-        other.values = {i: b.copy() for i, b in self.values.items()}
-        other.defined = {i: b.copy() for i, b in self.defined.items()}
-        other.dirty = {i: b.copy() for i, b in self.dirty.items()}
-        other.signals = {i: s.copy() for i, s in self.signals.items()}
-        other.sets = {i: s.copy() for i, s in self.sets.items()}
-        other.layouts = {i: l.copy() for i, l in self.layouts.items()}
+        for name in ("values", "defined", "dirty", "signals", "sets", "layouts"):
+            setattr(other, name, {i: held.copy() for i, held in getattr(self, name).items()})
         return other
 
     # ---- order
@@ -162,7 +160,7 @@ class Reading:
             self.sets.setdefault(point.content[1], []).append((point.queue, point.content[2]))
 
     def host_effect(self, entry, own):
-        if entry[0] in ("buffer", "image", "memory", "pool", "semaphore", "event"):
+        if entry[0] in ("buffer", "image", "memory", "pool", "semaphore", "event", "defrag"):
             self.made[entry[1]] = (self.count, entry)
         if entry[0] == "semaphore":
             self.counters[entry[1]] = entry[2]
@@ -174,6 +172,8 @@ class Reading:
         elif entry[0] in ("destroy", "free", "drop_pool"):
             self.ended[entry[1]] = self.count
             self.room.end(entry[1])
+        elif entry[0] in ("pass", "end_pass", "end_defrag"):
+            defragment(self, entry)
         elif entry[0] == "write":
             _, buffer, offset, text = entry
             given = bytes.fromhex(text)

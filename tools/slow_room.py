@@ -27,11 +27,27 @@ class Pool:
         self.blocks = {}
         self.next = 0
         self.places = {}
+        self.requests = {}
+        # What moves in an open pass, with its target, from the highest place down.
+        self.moves = []
 
     def new_block(self):
         if self.kind == "tlsf":
             return Lists(self.block_size, mixed=self.memory_type == 0)
         return Linear(self.block_size, ring=self.limit == 1)
+
+    def target(self, thing, request):
+        """Takes the place that a resource moves to, if there is one, and answers it."""
+        own, start = self.places[thing]
+        for number, block in self.blocks.items():
+            if number <= own:
+                found = block.below(start if number == own else block.size, *request)
+                if found is not None:
+                    return number, found
+        return None
+
+    def has_target(self, thing, request):
+        return copy.deepcopy(self).target(thing, request) is not None
 
     def request(self, entry):
         """The size, the alignment and the kind that a resource asks for."""
@@ -88,6 +104,7 @@ class Room:
         """Puts a resource in its pool: in the first block that holds it, or else in a new one."""
         pool = self.pools[place_of(entry)[1]]
         request = pool.request(entry)
+        pool.requests[entry[1]] = request
         for number, block in pool.blocks.items():
             start = put_in(block, entry, request)
             if start is not None:
@@ -104,9 +121,9 @@ class Room:
             self.seen.add("with several blocks of a pool")
         return True
 
-    def give_back(self, pool, thing):
-        """The place of a resource is free again; a block of which nothing is taken goes."""
-        number, start = pool.places.pop(thing)
+    def give_back(self, pool, place):
+        """A place is free again; a block of which nothing is taken goes."""
+        number, start = place
         pool.blocks[number].free(start)
         if not pool.blocks[number].taken():
             self.seen |= placed(pool.blocks.pop(number))
@@ -133,8 +150,38 @@ class Room:
         self.free[heap] += size
         for pool in self.pools.values():
             if thing in pool.places:
-                self.give_back(pool, thing)
+                self.give_back(pool, pool.places.pop(thing))
         self.pools.pop(thing, None)
+
+    # ---- passes of a defragmentation
+
+    def begin_pass(self, number, max_bytes, max_moves):
+        """Takes the targets of what moves, up to the first move that would pass a limit; 0 is none."""
+        pool, moved = self.pools[number], 0
+        for thing in sorted(pool.places, key=pool.places.get, reverse=True):
+            request = pool.requests[thing]
+            over = max_bytes and moved + request[0] > max_bytes or max_moves and len(pool.moves) >= max_moves
+            if over and pool.has_target(thing, request):
+                self.seen.add("with passes that a limit ends")
+                break
+            target = None if over else pool.target(thing, request)
+            if target is not None:
+                pool.moves.append((thing, target))
+                moved += request[0]
+        moved = "something" if pool.moves else "nothing" if pool.places else "nothing, in an empty pool"
+        self.seen.add(f"with passes that move {moved}")
+
+    def end_pass(self, number, kept):
+        """What moves is at its target, and what is kept stays; the other place is free again."""
+        pool = self.pools[number]
+        moves, pool.moves = pool.moves, []
+        for thing, target in moves:
+            old = pool.places[thing]
+            if thing in kept:
+                self.seen.add("with moves that are ignored")
+            else:
+                pool.places[thing], target = target, old
+            self.give_back(pool, target)
 
     def all_seen(self):
         blocks = (block for pool in self.pools.values() for block in pool.blocks.values())
