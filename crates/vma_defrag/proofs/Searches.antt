@@ -57,7 +57,7 @@ module _ (s : PoolsState) (pool : ℕ) (k : Kept) (there : pool_at s pool ≡ So
       here (inr any) =
           let c = any.1 in let large = any.4.0 in
           subst (λ (t : PoolPlace). IsExhausted k.pool (start_of t) (request_in own.asked)) (sym any.4.1)
-          (exhausted-longer k.pool (start_of c.low) (request_in c.asked) (request_in own.asked) (record { size = large.size; align = sym large.align; kind = sym large.kind }) (are k there c (any.0, any.2, any.3)))
+          (exhausted-longer k.pool (start_of c.low) (request_in c.asked) (request_in own.asked) large (are k there c (any.0, any.2, any.3)))
 
   -- where it has no target, where it lies is a cursor
   pub own-kept : IsExhaustedBefore s r.id → (new : List Cursor) → KeepsOne cursors new own → AreCursors s pool new

@@ -1,8 +1,9 @@
 ghost use Rattle.std.specs.Prelude.{◌≡◌, ◌<◌, ◌⊎◌, ◌↔◌, All, Contains, IfSome, IsTrue, length};
 ghost use Rattle.vk_model.specs.Memory.Pools.{IsHigher};
-ghost use Rattle.vma_pools.specs.State.{IfLive, IsMovable, start_of};
+ghost use Rattle.vma_pools.specs.Exhausted.{IsAsLarge};
+ghost use Rattle.vma_pools.specs.State.{IfLive, IsMovable, request_in, start_of};
 ghost use Rattle.vma_defrag.specs.declared.cursors.Cursor.{Cursor};
-ghost use Rattle.vma_defrag.specs.Inner.Cursors.{BeginsAt, IsAtLeast, IsPlaceOf};
+ghost use Rattle.vma_defrag.specs.Inner.Cursors.{BeginsAt, IsPlaceOf};
 
 use vma_blocks::PoolBlock;
 use vma_pools::{Asked, Home, PoolPlace, PoolsOf};
@@ -39,7 +40,7 @@ impl Cursor {
 
     /// Whether a request has no room where that of the cursor has none.
     fn serves(self, asked: Asked) -> bool
-        ensures { IsTrue result ↔ IsAtLeast self.asked asked }
+        ensures { IsTrue result ↔ IsAsLarge (request_in self.asked) (request_in asked) }
     {
         self.asked.size <= asked.size
             && self.asked.align == asked.align
@@ -58,7 +59,7 @@ fn is_higher(place: PoolPlace, other: PoolPlace) -> bool
 /// at the start of the pool.
 pub(crate) fn low_for(cursors: &[Cursor], asked: Asked) -> PoolPlace
     ensures begins { BeginsAt cursors.now asked result }
-    ensures highest { All (λ c. IsAtLeast c.asked asked → IsHigher (start_of c.low) (start_of result) → ⊥) cursors.now }
+    ensures highest { All (λ c. IsAsLarge (request_in c.asked) (request_in asked) → IsHigher (start_of c.low) (start_of result) → ⊥) cursors.now }
 {
     let mut low = PoolPlace { block: 0, start: 0 };
     for cursor in cursors {

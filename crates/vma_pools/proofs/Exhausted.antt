@@ -21,7 +21,7 @@ use Rattle.vk_model.proofs.Memory.Taken.{Fitting, fitting, widened}
 use Rattle.vma_blocks.specs.Alike.{IsGeneral}
 use Rattle.vma_blocks.proofs.AlikeLemmas.{alike-bytes, alike-taken, fits_alike}
 use Rattle.vma_pools.specs.Alike.{IsAlikeBlock, IsAlikePool}
-use Rattle.vma_pools.specs.Exhausted.{HasNoneBelow, IsExhausted}
+use Rattle.vma_pools.specs.Exhausted.{HasNoneBelow, IsAsLarge, IsExhausted}
 use Rattle.vma_pools.specs.Inner.Kinds.{IsKeptPool}
 use Rattle.vma_pools.specs.Inner.Lower.{at_start, lower_in, ranges_of}
 use Rattle.vma_pools.specs.Inner.Walk.{no_block}
@@ -87,24 +87,18 @@ apart-shorter k a n m l b o le fails =
     pages true e = false_from_ne_true (share_page a n b o) (λ fit. both_ways (share_page a m b o) e (pages-longer a n m b o le fit))
     pages false e = refl
 
--- a request of the same alignment and kind that isn't smaller
-pub record IsAsLarge (r q : Request) : Type 0 where
-  pub size : r.size ≤ q.size
-  pub align : q.align ≡ r.align
-  pub kind : q.kind ≡ r.kind
-
 pub fails-longer : (taken : List Taken) (r q : Request) (size start : ℕ) → IsAsLarge r q → fits taken r 0 size start ≡ false → fits taken q 0 size start ≡ false
 fails-longer taken r q size start large fails =
     false_from_ne_true (fits taken q 0 size start) (λ fit.
     let f = fitting taken q 0 size start fit in
     both_ways (fits taken r 0 size start) fails
     (fits-from taken r 0 size start (record {
-      aligned = subst (λ (n : ℕ). start % n ≡ 0) large.align f.aligned;
+      aligned = subst (λ (n : ℕ). start % n ≡ 0) (sym large.align) f.aligned;
       above = f.above;
       below = omega (arith, f.below, large.size);
       apart = λ i d lt.
           apart-shorter r.kind start r.size q.size (get_or taken i d).kind (get_or taken i d).start (get_or taken i d).size large.size
-          (subst (λ (k : Kind). conflict k start q.size (get_or taken i d).kind (get_or taken i d).start (get_or taken i d).size ≡ false) large.kind (f.apart i d lt));
+          (subst (λ (k : Kind). conflict k start q.size (get_or taken i d).kind (get_or taken i d).start (get_or taken i d).size ≡ false) (sym large.kind) (f.apart i d lt));
     })))
 
 -- ---- one block

@@ -1,5 +1,5 @@
 -- Below which place a pool has no room for a request.
-use Rattle.std.specs.Prelude.{◌≡◌, ℕ, All, Some, false}
+use Rattle.std.specs.Prelude.{◌≡◌, ℕ, ◌≤◌, All, Some, false}
 use Rattle.vk_model.specs.Memory.Suballocation.{Request}
 use Rattle.vk_model.specs.Memory.Room.{fits}
 use Rattle.vk_model.specs.Memory.MoveTargets.{BlockStart}
@@ -17,6 +17,12 @@ HasNoneBelow low r b = (start : ℕ) → IsHigher low (record { block = b.number
 -- A request fits at no place of a pool that is lower than this one: nowhere in a block of a lower number, and at no lower start in its own block (VMA, "Defragmentation"; what is lower: profile).
 abbrev pub IsExhausted : Pool → BlockStart → Request → Type 0
 IsExhausted p low r = All (HasNoneBelow low r) p.blocks
+
+-- A request is of the alignment and kind of another one, and isn't smaller: it has no room where that one has none (profile).
+pub record IsAsLarge (less more : Request) : Type 0 where
+  pub size : less.size ≤ more.size
+  pub align : less.align ≡ more.align
+  pub kind : less.kind ≡ more.kind
 
 -- In the pool of an allocation what it asks fits at no place that is lower than this one (VMA, "Defragmentation").
 abbrev pub IsExhaustedFor : PoolsState → ℕ → PoolPlace → Type 0

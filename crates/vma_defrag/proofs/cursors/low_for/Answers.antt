@@ -8,9 +8,10 @@ use Rattle.vk_model.specs.Memory.MoveTargets.{BlockStart}
 use Rattle.vk_model.specs.Memory.Pools.{IsHigher}
 use Rattle.vma_pools.specs.declared.pool.PoolPlace.{PoolPlace}
 use Rattle.vma_pools.specs.declared.allocations.Asked.{Asked}
-use Rattle.vma_pools.specs.State.{start_of}
+use Rattle.vma_pools.specs.Exhausted.{IsAsLarge}
+use Rattle.vma_pools.specs.State.{request_in, start_of}
 use Rattle.vma_defrag.specs.declared.cursors.Cursor.{Cursor}
-use Rattle.vma_defrag.specs.Inner.Cursors.{BeginsAt, IsAtLeast}
+use Rattle.vma_defrag.specs.Inner.Cursors.{BeginsAt}
 use Rattle.vma_defrag.proofs.cursors.low_for.Goals as goal
 use Rattle.vma_defrag.proofs.cursors.low_for.Goals.{then-serves+then-is_higher, else-serves, else-serves-via-then-serves+else-is_higher, else-serves-via-else-serves}
 
@@ -25,15 +26,15 @@ first = record { asked = record { size = 0; align = 0; kind = kind.Linear }; low
 
 -- no cursor of the first ones that serves a request is higher
 abbrev AreLower : List Cursor → Asked → ℕ → PoolPlace → Type 0
-AreLower cursors asked i low = (k : ℕ) (d : Cursor) → k < i → IsAtLeast (get_or cursors k d).asked asked → IsHigher (start_of (get_or cursors k d).low) (start_of low) → ⊥
+AreLower cursors asked i low = (k : ℕ) (d : Cursor) → k < i → IsAsLarge (request_in (get_or cursors k d).asked) (request_in asked) → IsHigher (start_of (get_or cursors k d).low) (start_of low) → ⊥
 
 one-more : (cursors : List Cursor) (asked : Asked) (i : ℕ) (one : Cursor) → i < length cursors → (low new : PoolPlace) → AreLower cursors asked i low → ((p : BlockStart) → IsHigher p (start_of new) → IsHigher p (start_of low))
-    → (IsAtLeast (get_or cursors i one).asked asked → IsHigher (start_of (get_or cursors i one).low) (start_of new) → ⊥) → AreLower cursors asked (i + 1) new
+    → (IsAsLarge (request_in (get_or cursors i one).asked) (request_in asked) → IsHigher (start_of (get_or cursors i one).low) (start_of new) → ⊥) → AreLower cursors asked (i + 1) new
 one-more cursors asked i one there low new before up last k d lt = elim (cases_lt k i) [
   | inl less ↦ λ large higher. before k d less large (up _ higher)
   | inr more ↦ (let is : k ≡ i = omega (arith, lt, more) in
       let at : get_or cursors k d ≡ get_or cursors i one = ap (λ (j : ℕ). get_or cursors j d) is ∙ get_or_default cursors i d one there in
-      subst (λ (c : Cursor). IsAtLeast c.asked asked → IsHigher (start_of c.low) (start_of new) → ⊥) (sym at) last)
+      subst (λ (c : Cursor). IsAsLarge (request_in c.asked) (request_in asked) → IsHigher (start_of c.low) (start_of new) → ⊥) (sym at) last)
 ]
 
 itself : (a : BlockStart) → IsHigher a a → ⊥
