@@ -1,5 +1,5 @@
 -- What is allocated when a pass has ended.
-use Rattle.std.proofs.Common.{◌≡◌, ℕ, ◌+◌, ◌*◌, ◌<◌, List, [], ◌∷◌, ◌++◌, map, length, get_or, Bool, true, false, ◌==◌, Option, Some, None, refl, sym, ap, subst, ◌∙◌, arith, inl, inr, ◌⊎◌}
+use Rattle.std.proofs.Common.{◌≡◌, ℕ, ◌+◌, ◌*◌, ◌<◌, List, [], ◌++◌, map, length, get_or, Bool, true, false, ◌==◌, Option, Some, None, refl, sym, ap, subst, ◌∙◌, arith, inl, inr}
 use Rattle.std.specs.Prelude.{Contains, if◌then◌else◌, slice_index_or, sum_by}
 use Rattle.std.specs.Option.{option_and_then}
 use Rattle.std.specs.List.{filter, fold}
@@ -13,7 +13,6 @@ use Rattle.vk_model.specs.declared.resource.PoolInfo.{PoolInfo}
 use Rattle.vk_model.specs.Memory.Room.{heap_of}
 use Rattle.vk_model.specs.Memory.MoveTargets.{Moved}
 use Rattle.vk_model.specs.Memory.Allocations.{Allocated, Defragmentation, PoolMemory, after_pass, defragmented, move_ended, pool_by_id, pool_bytes, with_pool, without_resident}
-use Rattle.vk_model.proofs.Lists.Members.{none_in, contains-cons, contains-head, contains-tail}
 use Rattle.vma_pools.specs.declared.allocations.Allocation.{Allocation}
 use Rattle.vma_pools.specs.declared.allocations.Home.TheVariants as home
 use Rattle.vma_pools.specs.Alike.{IsAlikePool}
@@ -38,6 +37,7 @@ use Rattle.vk_backing.proofs.Freed.{kind_here, object_kind}
 use Rattle.vk_backing.proofs.Owning.{heap_bytes}
 use Rattle.vk_backing.proofs.Without.{kind_at}
 use Rattle.vk_backing.proofs.Places.{its_pools, its, its_found, its_alike}
+use Rattle.vk_backing.proofs.Numbers.{listed_or}
 use Rattle.vk_backing.proofs.Naming.{LiesOn, name, name_has, name_is}
 use Rattle.vk_backing.proofs.NamedMoves.{as_moved, moves_named}
 use Rattle.vk_backing.proofs.ChangedMoves.{moves_changed, same_defrags}
@@ -49,17 +49,6 @@ use Rattle.vk_backing.proofs.Cleared.{AreCleared, AreOfKind, all_cleared, cleare
 use Rattle.vk_backing.proofs.PassEnded.{AreGone, EndsAll, MayLieIn, among_numbers, end_moves, end_resources, ends_more, found_by, turned_elsewhere, turned_lies}
 
 -- ---- numbers, lists and bytes
-
--- a number is in a list, or isn't
-there_or : (xs : List ℕ) (x : ℕ) → Contains xs x ⊎ (Contains xs x → ⊥)
-there_or [] x = inr (λ there. none_in x there)
-there_or (y ∷ ys) x = elim (cases_eq y x) [
-  | inl e ↦ inl (subst (λ (z : ℕ). Contains (y ∷ ys) z) e (contains-head y ys))
-  | inr other ↦ elim (there_or ys x) [
-    | inl there ↦ inl (contains-tail y ys x there)
-    | inr away ↦ inr (λ there. elim (contains-cons y ys x there) [ inl e ↦ other e | inr later ↦ away later ])
-  ]
-]
 
 -- the bytes of some blocks more
 fewer_bytes : (v : Bool) (n g s : ℕ) → (if v then (n + g) * s else 0) ≡ (if v then n * s else 0) + g * (if v then s else 0)
@@ -255,7 +244,7 @@ module _ (b c : Backed) (m n : MemoryState) (h : IsBacked b m) (whole : IsWhole 
   names i = ap (λ (l : List (ℕ × ℕ)). number_in l i) o.numbers
 
   same_found : (j : ℕ) → found_by b c.pools j ≡ allocation_by c j
-  same_found j = elim (there_or destroyed j) [
+  same_found j = elim (listed_or destroyed j) [
     | inl at ↦ (let l = lost_lies j at in
         ap (λ (x : Option ℕ). option_and_then (allocation_at c.pools) x) l.1 ∙ resources_end.1.each j l.0 at l.1 ∙ sym (ap (λ (x : Option ℕ). option_and_then (allocation_at c.pools) x) (o.gone j at)))
     | inr away ↦ ap (λ (x : Option ℕ). option_and_then (allocation_at c.pools) x) (sym (o.allocations j away))

@@ -22,7 +22,7 @@ mod Mapping
 mod Disowning
 mod DedicatedCalls
 pub mod Remapped
-mod Numbers
+pub mod Numbers
 mod Named
 pub mod Passing
 pub mod PassingSteps

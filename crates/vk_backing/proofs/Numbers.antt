@@ -1,12 +1,23 @@
--- The numbers of some ids, in their order; and ids that have none any more.
-use Rattle.std.proofs.Common.{◌≡◌, ℕ, ◌+◌, ◌<◌, List, [], ◌∷◌, ◌++◌, length, take, get_or, Option, None, refl, sym, ap, subst, ◌∙◌, inl, inr}
+-- Which numbers are in a list; the numbers of some ids, in their order; and ids that have none any more.
+use Rattle.std.proofs.Common.{◌≡◌, ℕ, ◌+◌, ◌<◌, List, [], ◌∷◌, ◌++◌, length, take, get_or, Option, None, refl, sym, ap, subst, ◌∙◌, inl, inr, ◌⊎◌}
 use Rattle.std.specs.Prelude.{Contains}
 use Rattle.std.specs.List.{filter_map, cons_option}
 use Rattle.std.proofs.lemmas.Bool.{cases_eq}
 use Rattle.std.proofs.lemmas.List.{take_more}
 use Rattle.std.proofs.lemmas.List.Elements.{Contains-append_cases, Contains-append_left, Contains-append_right, filter_map-append}
-use Rattle.vk_model.proofs.Lists.Members.{contains-head, none_in, only_one}
+use Rattle.vk_model.proofs.Lists.Members.{contains-cons, contains-head, contains-tail, none_in, only_one}
 use Rattle.vk_backing.specs.Backed.{number_in}
+
+-- a number is in a list, or isn't
+pub listed_or : (xs : List ℕ) (x : ℕ) → Contains xs x ⊎ (Contains xs x → ⊥)
+listed_or [] x = inr (λ there. none_in x there)
+listed_or (y ∷ ys) x = elim (cases_eq y x) [
+  | inl e ↦ inl (subst (λ (z : ℕ). Contains (y ∷ ys) z) e (contains-head y ys))
+  | inr other ↦ elim (listed_or ys x) [
+    | inl there ↦ inl (contains-tail y ys x there)
+    | inr away ↦ inr (λ there. elim (contains-cons y ys x there) [ inl e ↦ other e | inr later ↦ away later ])
+  ]
+]
 
 -- one id more
 pub more_numbers : (h : ℕ → Option ℕ) (ids : List ℕ) (k : ℕ) (o : Option ℕ) → k < length ids → h (get_or ids k 0) ≡ o → filter_map h (take (k + 1) ids) ≡ filter_map h (take k ids) ++ cons_option o []

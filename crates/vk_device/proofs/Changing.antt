@@ -24,7 +24,7 @@ use Rattle.vk_resources.specs.declared.resources.Placed.{Placed}
 use Rattle.vk_resources.specs.Held.{Held, IsThere, HasCell, placed, shape_of, form_of}
 use Rattle.vk_resources.proofs.Lying.{where_lies, lies_there}
 use Rattle.vk_resources.proofs.Matching.{some_sized}
-use Rattle.vk_resources.proofs.PuttingAnew.{listed_or}
+use Rattle.vk_backing.proofs.Numbers.{listed_or}
 use Rattle.vk_resources.specs.Matches.{Stands}
 use Rattle.vk_resources.specs.PassSteps.{AreClean, WritesBack, Drops, EndsResources, KeepsForm, is_of_any}
 use Rattle.vk_device.specs.Inner.Clean.{IsClean}

@@ -20,7 +20,7 @@ use Rattle.vk_resources.specs.Inner.PassEnds.{ForgetsEach, HoldsNoneOf, Settles}
 use Rattle.vk_resources.proofs.CachedBytes.{host_of}
 use Rattle.vk_resources.proofs.Lying.{Lies, byte_lies, lies_within, where_is, where_lies}
 use Rattle.vk_resources.proofs.MovedPlaces.{HaveHomes, IsOwned, IsPooled, Origin, moved_bare, not_gone, origin}
-use Rattle.vk_resources.proofs.PuttingAnew.{listed_or}
+use Rattle.vk_backing.proofs.Numbers.{listed_or}
 
 -- ---- a copy that is dropped
 

@@ -31,7 +31,7 @@ use Rattle.vk_resources.proofs.Binding.{destroyed_clear}
 use Rattle.vk_resources.proofs.Ending.{resource_no_pool}
 use Rattle.vk_resources.proofs.Matching.{LivePlaced, home, keeps_stands, lies_on, live_of_placed, resource_of_placed, unshared}
 use Rattle.vk_resources.proofs.MovedPlaces.{HasHome, HaveHomes, IsOwned, IsPooled, Origin, mover_has, origin}
-use Rattle.vk_resources.proofs.PuttingAnew.{listed_or}
+use Rattle.vk_backing.proofs.Numbers.{listed_or}
 
 -- ---- where resources lie
 

@@ -22,7 +22,7 @@ use Rattle.vk_resources.specs.Held.{Held, IsApart, IsCaching, IsConsistent, IsCa
 use Rattle.vk_resources.specs.Inner.PassEnds.{HoldsNoneOf, LeavesOut, PlacesAnew}
 use Rattle.vk_resources.proofs.CachedBytes.{clear_atoms, here_cached}
 use Rattle.vk_resources.proofs.Placing.{inside_of, one_place}
-use Rattle.vk_resources.proofs.PuttingAnew.{listed_or}
+use Rattle.vk_backing.proofs.Numbers.{listed_or}
 
 -- ---- where a resource lies
 

@@ -7,26 +7,16 @@ use Rattle.std.specs.BTreeMap.{is_at}
 use Rattle.std.proofs.lemmas.Bool.{cases_eq}
 use Rattle.std.proofs.lemmas.List.{take_more}
 use Rattle.std.proofs.lemmas.List.Elements.{Contains-append_cases, Contains-append_left, Contains-append_right}
-use Rattle.vk_model.proofs.Lists.Members.{contains-cons, contains-head, contains-tail, none_in, only_one}
+use Rattle.vk_model.proofs.Lists.Members.{contains-head, none_in, only_one}
 use Rattle.vk_model.specs.declared.resource.Spot.{Spot}
 use Rattle.vk_backing.specs.Backed.{Backed, allocation_of, LiesIn}
+use Rattle.vk_backing.proofs.Numbers.{listed_or}
 use Rattle.vk_resources.specs.declared.resources.Placed.{Placed}
 use Rattle.vk_resources.specs.Held.{Held, placed_in}
 use Rattle.vk_resources.specs.Inner.Steps.{Forgets, cached_at}
 use Rattle.vk_resources.specs.Inner.PassEnds.{ForgetsEach, HoldsNoneOf, LeavesOut, LiesAnew, PlacesAnew}
 
 -- ---- lists
-
--- a number is in a list, or isn't
-pub listed_or : (xs : List ℕ) (x : ℕ) → Contains xs x ⊎ (Contains xs x → ⊥)
-listed_or [] x = inr (λ there. none_in x there)
-listed_or (y ∷ ys) x = elim (cases_eq y x) [
-  | inl e ↦ inl (subst (λ (z : ℕ). Contains (y ∷ ys) z) e (contains-head y ys))
-  | inr other ↦ elim (listed_or ys x) [
-    | inl there ↦ inl (contains-tail y ys x there)
-    | inr away ↦ inr (λ there. elim (contains-cons y ys x there) [ inl e ↦ other e | inr later ↦ away later ])
-  ]
-]
 
 module _ (xs : List ℕ) (id : ℕ) where
   has_last : Contains (xs ++ id ∷ []) id
