@@ -25,3 +25,4 @@ mod Searches
 mod Walk
 mod Turns
 pub mod Matched
+mod NoneToMove

@@ -1,13 +1,13 @@
 -- What a pass begins with.
-use Rattle.std.specs.Prelude.{◌≡◌, ℕ, List, [], ◌∷◌, length, sum_by, Option, Some, None, ⊤}
+use Rattle.std.specs.Prelude.{◌≡◌, ℕ, List, [], ◌∷◌, length, sum_by, Option, Some, None, ⊤, All, ◌↔◌}
 use Rattle.vk_model.specs.Basics.{below}
-use Rattle.vk_model.specs.Memory.MoveTargets.{Resident, Moved, pass_moves}
+use Rattle.vk_model.specs.Memory.MoveTargets.{Resident, Moved, move_target, pass_moves}
 use Rattle.vk_model.specs.Memory.Pools.{IsByPlace, numbered_blocks}
 use Rattle.vma_pools.specs.declared.pool.PoolPlace.{PoolPlace}
 use Rattle.vma_pools.specs.Alike.{IsAlikePool}
 use Rattle.vma_pools.specs.Pools.{Kept}
 use Rattle.vma_pools.specs.Listing.{residents_of}
-use Rattle.vma_pools.specs.State.{PoolsState, pool_at, start_of, IsReserved}
+use Rattle.vma_pools.specs.State.{PoolsState, pool_at, start_of, IfKept, IsReserved}
 use Rattle.vma_defrag.specs.State.{DefragState, PassState, moves_in, part_count}
 
 -- The targets of moves are reserved, one after another (VMA, "Defragmentation").
@@ -27,6 +27,10 @@ pub record HasBegun (old new : DefragState) (before after : PoolsState) : Type 0
   pub by_place : IsByPlace (residents_of before old.pool) listed
   pub state : new ≡ record old { current = Some (pass_of (pass_moves old.max_bytes old.max_moves (numbered_blocks kept.pool.blocks) listed)) }
   pub reserved : Reserves before (moves_in new.current) after
+
+-- A pass without limits has no moves exactly where no allocation of the pool has a move target (VMA, "Defragmentation", on `maxBytesPerPass` and `maxAllocationsPerPass`).
+abbrev pub IsEmptyWhereLowest : DefragState → PoolsState → List Moved → Type 0
+IsEmptyWhereLowest d s moves = d.max_bytes ≡ 0 → d.max_moves ≡ 0 → IfKept s d.pool (λ k. (moves ≡ []) ↔ All (λ a. move_target (numbered_blocks k.pool.blocks) a ≡ None) (residents_of s d.pool))
 
 -- Two pools are alike, with the same memory objects, if there are any.
 abbrev pub AreAlikeKept : Option Kept → Option Kept → Type 0

@@ -46,7 +46,7 @@ impl Defrag {
     ghost use Rattle.vma_pools.specs.State.{Backs, IfKept};
     ghost use Rattle.vma_defrag.specs.State.{left_in, moves_in, with_left};
     ghost use Rattle.vma_defrag.specs.Plans.{AreMatched, ArePlanned};
-    ghost use Rattle.vma_defrag.specs.Passes.{AreAlikePools, HasBegun};
+    ghost use Rattle.vma_defrag.specs.Passes.{AreAlikePools, HasBegun, IsEmptyWhereLowest};
     ghost use Rattle.vma_defrag.specs.Bytes.{AreCopied, CopiesPart, MovesBetween, no_move};
     ghost use Rattle.vma_defrag.specs.Ends.{AreOfPool, HasEnded, KeepsBytes};
 
@@ -78,6 +78,7 @@ impl Defrag {
         requires planned { ArePlanned pools.old self.old.pool [] }
         requires backs { Backs pools.old memories.old }
         ensures begun { OnOk result (HasBegun self.old self.new pools.old pools.new) }
+        ensures empty { OnOk result (IsEmptyWhereLowest self.old pools.old (moves_in self.new.current)) }
         ensures planned { OnOk result (ArePlanned pools.new self.new.pool (moves_in self.new.current)) }
         ensures err { OnErr result (self.new ≡ self.old) }
         ensures alike { OnErr result (AreAlikePools pools.old pools.new) }
