@@ -21,6 +21,7 @@ mod Changing
 mod PassParts
 mod Coming
 mod Touching
+mod Resting
 mod Entering
 mod WholeEntries
 mod Allocating

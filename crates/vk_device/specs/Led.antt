@@ -1,5 +1,5 @@
 -- How an allowed run has led to a device, and what the device answers to what comes next.
-use Rattle.std.specs.Prelude.{◌≡◌, ℕ, suc, List, [], ◌∷◌, ◌++◌, map, Contains, Some, None}
+use Rattle.std.specs.Prelude.{◌≡◌, ℕ, suc, List, [], ◌∷◌, ◌++◌, map, Contains, Some, None, true}
 use Rattle.vk_model.specs.declared.command.Cmd.{Cmd}
 use Rattle.vk_model.specs.declared.entry.Entry.{Entry}
 use Rattle.vk_model.specs.Trace.Point.{Past}
@@ -124,6 +124,10 @@ module _ (answer : List ℕ → ℕ → ℕ) (next : List ℕ → ℕ → List �
   abbrev pub Applies : Applied → List Entry → List Step → Stage → List ℕ → Entry → List Entry → Device → List ℕ → Type 0
   Applies applied.NoRoom t steps s held x xs new after = let p = before_entry answer next s held x in Led t (steps ++ p.steps) p.stage new × (after ≡ p.held)
   Applies _ t steps s held x xs new after = let p = entry_picks answer next (parts_begun new.passes x) s held x xs in Led t (steps ++ p.steps) p.stage new × (after ≡ p.held)
+
+-- Where no pass is open before and after, only bytes of resources have changed of the memory objects that are live before and after: padding, and what is free in pools, are as they were (Vulkan, "Device Memory" and "Resource Memory Association"; VMA, "Custom memory pools").
+abbrev pub KeepsPadding : Device → Device → Type 0
+KeepsPadding old new = old.passes.opened ≡ None → new.passes.opened ≡ None → KeepsRest old.resources new.resources (λ c. true)
 
 -- What an entry reads (Vulkan, "Host Access to Device Memory Objects").
 abbrev pub Reads : Applied → Stage → Entry → Type 0

@@ -3,6 +3,7 @@ ghost use Rattle.vk_model.specs.declared.entry.Entry.TheVariants as entry;
 ghost use Rattle.vk_resources.specs.declared.applied.Applied.TheVariants as applied;
 ghost use Rattle.vk_resources.specs.Allocating.{NoRoomIsExact};
 ghost use Rattle.vk_device.specs.Passes.{AllotsAll};
+ghost use Rattle.vk_device.specs.Led.{KeepsPadding};
 ghost use Rattle.vk_device.specs.Inner.Fits.{is_of_passes};
 ghost use Rattle.vk_device.specs.Inner.Ready.{MayChange, HasDone};
 
@@ -23,6 +24,7 @@ impl<'a> Device<'a> {
         requires { MayChange self.old (entry.Defrag id pool max_bytes max_moves) }
         ensures done { OnOk result (HasDone applied.Done (entry.Defrag id pool max_bytes max_moves) self.old self.new) }
         ensures allots { OnOk result (AllotsAll applied.Done (entry.Defrag id pool max_bytes max_moves) self.old.resources self.old.passes self.new.resources self.new.passes) }
+        ensures rest { OnOk result (KeepsPadding self.old self.new) }
         ensures same { self.new ≡ record self.old { resources = self.new.resources; passes = self.new.passes } }
     {
         self.resources
@@ -35,6 +37,7 @@ impl<'a> Device<'a> {
         requires { MayChange self.old (entry.Pass defrag) }
         ensures done { OnOk result (HasDone applied.Done (entry.Pass defrag) self.old self.new) }
         ensures allots { OnOk result (AllotsAll applied.Done (entry.Pass defrag) self.old.resources self.old.passes self.new.resources self.new.passes) }
+        ensures rest { OnOk result (KeepsPadding self.old self.new) }
         ensures same { self.new ≡ record self.old { resources = self.new.resources; passes = self.new.passes } }
     {
         self.resources.begin_pass(&mut self.passes, defrag)?;
@@ -51,6 +54,7 @@ impl<'a> Device<'a> {
         requires { MayChange self.old (entry.EndPass defrag ignored.now destroyed.now) }
         ensures done { OnOk result (HasDone applied.Done (entry.EndPass defrag ignored.now destroyed.now) self.old self.new) }
         ensures allots { OnOk result (AllotsAll applied.Done (entry.EndPass defrag ignored.now destroyed.now) self.old.resources self.old.passes self.new.resources self.new.passes) }
+        ensures rest { OnOk result (KeepsPadding self.old self.new) }
         ensures same { self.new ≡ record self.old { resources = self.new.resources; passes = self.new.passes } }
     {
         let _defrag = defrag;
@@ -64,6 +68,7 @@ impl<'a> Device<'a> {
         requires { MayChange self.old (entry.EndDefrag defrag) }
         ensures done { HasDone applied.Done (entry.EndDefrag defrag) self.old self.new }
         ensures allots { AllotsAll applied.Done (entry.EndDefrag defrag) self.old.resources self.old.passes self.new.resources self.new.passes }
+        ensures rest { KeepsPadding self.old self.new }
         ensures same { self.new ≡ record self.old { resources = self.new.resources; passes = self.new.passes } }
     {
         self.resources.end_defrag(&mut self.passes, defrag);
@@ -76,6 +81,7 @@ impl<'a> Device<'a> {
         ensures done { IfOk result (λ a. HasDone a entry.now self.old self.new) }
         ensures rooms { IfOk result (λ a. NoRoomIsExact a self.old.resources entry.now) }
         ensures allots { IfOk result (λ a. AllotsAll a entry.now self.old.resources self.old.passes self.new.resources self.new.passes) }
+        ensures rest { OnOk result (KeepsPadding self.old self.new) }
         ensures same { self.new ≡ record self.old { resources = self.new.resources; passes = self.new.passes } }
     {
         self.resources.are_resources();
@@ -89,6 +95,7 @@ impl<'a> Device<'a> {
         ensures done { IfOk result (λ a. HasDone a entry.now self.old self.new) }
         ensures rooms { IfOk result (λ a. NoRoomIsExact a self.old.resources entry.now) }
         ensures allots { IfOk result (λ a. AllotsAll a entry.now self.old.resources self.old.passes self.new.resources self.new.passes) }
+        ensures rest { OnOk result (KeepsPadding self.old self.new) }
         ensures same { self.new ≡ record self.old { resources = self.new.resources; passes = self.new.passes } }
     {
         match entry {

@@ -53,9 +53,9 @@ pub struct Device<'a> {
 
 impl<'a> Device<'a> {
     ghost use Rattle.vk_model.specs.Run.Runs.{start};
-    ghost use Rattle.vk_device.specs.Led.{Led, IsBefore, IsNext, MayRun, HasRun, HasWritten, HasChanged, KeepsMemory, Applies, Reads};
+    ghost use Rattle.vk_device.specs.Led.{Led, IsBefore, IsNext, MayRun, HasRun, HasWritten, HasChanged, KeepsMemory, KeepsPadding, Applies, Reads};
     ghost use Rattle.vk_device.specs.Empty.{nothing_backed, none_begun};
-    ghost use Rattle.vk_device.specs.Inner.Ready.{PrepareReady, Prepares, Waited, MayAsk, Goes, Picks, HostDone, AdvanceReady, Touches};
+    ghost use Rattle.vk_device.specs.Inner.Ready.{PrepareReady, Prepares, Waited, MayAsk, Goes, Picks, HostDone, AdvanceReady, Touches, Rests, RestsIfClosed};
     ghost use Rattle.vk_resources.specs.Allocating.{allotted};
     ghost use Rattle.vk_device.specs.declared.applied.ApplyError.TheVariants.{NoMemory, Failed};
 
@@ -87,6 +87,8 @@ impl<'a> Device<'a> {
         ensures written { HasWritten self.old self.new piece }
         ensures changed { HasChanged self.old self.new piece }
         ensures rest { KeepsMemory self.old self.new piece }
+        ensures placed { self.new.resources.resources ≡ self.old.resources.resources }
+        ensures shapes { self.new.resources.shapes ≡ self.old.resources.shapes }
         ensures allotted { allotted self.new.resources ≡ allotted self.old.resources }
         ensures passes { self.new.passes ≡ self.old.passes }
         ensures failed { self.new.failed ≡ self.old.failed }
@@ -168,6 +170,7 @@ impl<'a> Device<'a> {
             → Picks S.answer S.next t steps s (S.held sched.old) entry.now self.new (S.held sched.new)) }
         ensures allotted { allotted self.new.resources ≡ allotted self.old.resources }
         ensures stays { StaysAllotted (allotted self.old.resources) self.old.passes (allotted self.new.resources) self.new.passes }
+        ensures rests { RestsIfClosed self.old self.new }
         ensures failed { self.new.failed ≡ self.old.failed }
     {
         picks_are_runs();
@@ -202,6 +205,7 @@ impl<'a> Device<'a> {
             → Touches S.answer S.next s.front.past entry.now (S.held sched.old) self.old.resources self.new.resources (S.held sched.new)) }
         ensures same { self.new ≡ record self.old { resources = self.new.resources } }
         ensures allotted { allotted self.new.resources ≡ allotted self.old.resources }
+        ensures rests { OnOk result (Rests self.old.resources self.new.resources) }
     {
         no_fault_is_sound();
         direct_runs_are_runs();
@@ -254,6 +258,7 @@ impl<'a> Device<'a> {
         ensures reads { IfOk result (λ a. (t : List Entry) (steps : List Step) (s : Stage) (xs : List Entry) → IsBefore t steps s entry.now xs self.old → Reads a s entry.now) }
         ensures rooms { IfOk result (λ a. NoRoomIsExact a self.old.resources entry.now) }
         ensures allots { IfOk result (λ a. AllotsAll a entry.now self.old.resources self.old.passes self.new.resources self.new.passes) }
+        ensures rest { OnOk result (KeepsPadding self.old self.new) }
         ensures failed { self.new.failed ≡ self.old.failed }
         ensures error { IfErr result (λ f. f ≡ NoMemory) }
     {
@@ -294,6 +299,8 @@ impl<'a> Device<'a> {
         ensures reads { IfOk result (λ a. (t : List Entry) (steps : List Step) (s : Stage) (xs : List Entry) → IsBefore t steps s entry.now xs self.old → Reads a s entry.now) }
         ensures rooms { IfOk result (λ a. NoRoomIsExact a self.old.resources entry.now) }
         ensures allots { IfOk result (λ a. AllotsAll a entry.now self.old.resources self.old.passes self.new.resources self.new.passes) }
+        // Where no pass is open before and after, only bytes of resources change.
+        ensures rest { OnOk result (KeepsPadding self.old self.new) }
         ensures works { IfOk result (λ a. (self.old.failed ≡ false) × (self.new.failed ≡ false)) }
         ensures error { IfErr result (λ f. f ≡ (if self.old.failed then Failed else NoMemory)) }
         ensures failed { OnErr result (self.new.failed ≡ true) }

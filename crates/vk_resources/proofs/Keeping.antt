@@ -47,12 +47,12 @@ byte_placed s number k c w =
     byte_lies s c (place_lies s number k c w) ∙ ap (λ (o : ℕ). slice_index (region_of s.memory o) (w.place.offset + w.at)) w.object
     ∙ ap (λ (j : ℕ). slice_index (region_of s.memory number) j) w.byte
 
-still_placed : (old new : Held) → KeepsPlaces old new → (number k : ℕ) (c : Byte) → IsPlaceOf old number k c → IsPlaceOf new number k c
-still_placed old new keeps number k c w = record {
+pub still_placed : (old new : Held) → new.resources ≡ old.resources → new.shapes ≡ old.shapes → (number k : ℕ) (c : Byte) → IsPlaceOf old number k c → IsPlaceOf new number k c
+still_placed old new resources shapes number k c w = record {
   place = w.place;
   at = w.at;
-  here = ap (λ (l : List (ℕ × Placed)). placed_in l (resource_at c)) keeps.resources ∙ w.here;
-  is = ap (λ (l : List (ℕ × ImageInfo)). place_of (form_of (shape_in l (resource_at c)) w.place.size) c) keeps.shapes ∙ w.is;
+  here = ap (λ (l : List (ℕ × Placed)). placed_in l (resource_at c)) resources ∙ w.here;
+  is = ap (λ (l : List (ℕ × ImageInfo)). place_of (form_of (shape_in l (resource_at c)) w.place.size) c) shapes ∙ w.is;
   object = w.object;
   byte = w.byte;
 }
@@ -90,7 +90,7 @@ narrowed old new wide test keeps rest same = record {
     tested : (number k : ℕ) → LiesNone old test number k → (c : Byte) → IsTrue (wide c) → IsPlaceOf old number k c → (t : Bool) → test c ≡ t → slice_index (region_of new.memory number) k ≡ slice_index (region_of old.memory number) k
     tested number k none c among w true e = absurd (none c e w)
     tested number k none c among w false e =
-        sym (byte_placed new number k c (still_placed old new keeps number k c w)) ∙ same c (lies_there old c (place_lies old number k c w)) among e ∙ byte_placed old number k c w
+        sym (byte_placed new number k c (still_placed old new keeps.resources keeps.shapes number k c w)) ∙ same c (lies_there old c (place_lies old number k c w)) among e ∙ byte_placed old number k c w
 
 -- where byte writes have been made
 pub ran_rest : (old new : Held) (wide : Byte → Bool) (ms : List ByteWrite) → KeepsPlaces old new → KeepsRest old new wide → HaveRun ms (byte_at old) (byte_at new) → KeepsRest old new (is_written ms)

@@ -40,7 +40,7 @@ some_alike None p e some = absurd cc
 some_alike (Some o) (Some p) e some = refl
 some_alike (Some o) None e some = absurd cc
 
-live_alike : (s n : Held) → allotted n ≡ allotted s → (x : ℕ) → IsLive s.memory x → IsLive n.memory x
+pub live_alike : (s n : Held) → allotted n ≡ allotted s → (x : ℕ) → IsLive s.memory x → IsLive n.memory x
 live_alike s n same x live =
     some_alike (object_at s.memory x) (object_at n.memory x) (sym (kind_at n.memory.objects x) ∙ ap (λ (a : Allotted). slice_index_or a.objects x None) same ∙ kind_at s.memory.objects x) live
 

@@ -30,8 +30,9 @@ mod Sparing
 mod WritingBack
 mod CopyingParts
 mod KeptCopies
+pub mod RestThrough
 pub mod AllottedPasses
-pub mod PuttingAnew
+mod PuttingAnew
 mod MovedPlaces
 mod EndingPasses
 mod EndedCells

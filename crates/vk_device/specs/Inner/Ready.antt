@@ -19,6 +19,7 @@ use Rattle.vk_queues.specs.IsWaiting.{IsWaiting}
 use Rattle.vk_offers.specs.IsOffers.{IsOffers, CountsBefore, host_node, is_free_next, is_run}
 use Rattle.vk_resources.specs.Held.{Held, IsThere, HasCell}
 use Rattle.vk_resources.specs.Matches.{Stands}
+use Rattle.vk_resources.specs.Rest.{KeepsRest}
 use Rattle.vk_resources.specs.Fits.{FitsCommand, NamesLive}
 use Rattle.vk_resources.specs.declared.applied.Applied.{Applied}
 use Rattle.vk_resources.specs.declared.applied.Applied.TheVariants as applied
@@ -54,6 +55,16 @@ pub record HasTouched (x : Entry) (atoms : List ℕ) (old new : Held) : Type 0 w
 pub record Touches (answer : List ℕ → ℕ → ℕ) (next : List ℕ → ℕ → List ℕ) (past : Past) (x : Entry) (held : List ℕ) (old new : Held) (after : List ℕ) : Type 0 where
   pub touched : HasTouched x (atom_picks answer next (atom_count past x) 0 held).0 old new
   pub holds : after ≡ (atom_picks answer next (atom_count past x) 0 held).1
+
+-- Resources lie where they lay, and only bytes of them have changed of all memory objects.
+pub record Rests (old new : Held) : Type 0 where
+  pub rest : KeepsRest old new (λ c. true)
+  pub resources : new.resources ≡ old.resources
+  pub shapes : new.shapes ≡ old.shapes
+
+-- Where no pass is open what has run leaves passes as they are, and all bytes that are of no resource.
+abbrev pub RestsIfClosed : Device → Device → Type 0
+RestsIfClosed old new = old.passes.opened ≡ None → (new.passes ≡ old.passes) × Rests old.resources new.resources
 
 -- ---- an entry is done by itself
 

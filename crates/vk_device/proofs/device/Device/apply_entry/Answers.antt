@@ -12,6 +12,7 @@ use Rattle.vk_device.specs.Inner.Ready.{AdvanceReady, HasDone, HostDone, MayChan
 use Rattle.vk_device.specs.Led.{Led}
 use Rattle.vk_device.proofs.WholeEntries.{Laws, next_then, may_change, advance_ready, applied_then, read_then, refused}
 use Rattle.vk_device.proofs.Allocating.{rooms_before, allots_through, stays_same}
+use Rattle.vk_device.proofs.Resting.{padding_same, padding_then}
 use Rattle.vk_device.proofs.device.Device.apply_entry.Goals as goal
 
 pub touch-requires : goal.touch-requires
@@ -56,6 +57,10 @@ returns-in-NoRoom-clause-allots g c =
     allots_through applied.NoRoom c.args.entry.now c.args.self.now.resources c.args.self.now.passes mid.resources mid.passes c.change.new.self.resources c.change.new.self.passes stays
     (subst (λ (a : Applied). AllotsAll a c.args.entry.now mid.resources mid.passes c.change.new.self.resources c.change.new.self.passes) c.in-NoRoom.is c.in_ok-applied.ensures.allots)
 
+pub returns-in-NoRoom-clause-rest : goal.returns-in-NoRoom-clause-rest
+returns-in-NoRoom-clause-rest g c =
+    padding_then c.args.self.now c.run_picked.new.self c.touch.new.self c.change.new.self c.run_picked.ensures.rests c.run_picked.ensures.allotted c.touch.ensures.same c.touch.ensures.allotted c.in_ok-touch.ensures.rests c.in_ok-applied.ensures.rest
+
 pub returns-in_ok-advance-in_default : goal.returns-in_ok-advance-in_default
 returns-in_ok-advance-in_default g c =
     let laws : Laws = record { sound = c.no_fault_is_sound.ensures; runs = c.direct_runs_are_runs.ensures; following = c.defined_runs_follow.ensures; lead_on = c.picks_are_runs.ensures.lead_on; anything = c.new_memory_holds_anything.ensures; entries_go = c.direct_runs_go_on.ensures.entries; reads_trace = c.direct_runs_are_fresh.ensures.reads } in
@@ -73,6 +78,8 @@ returns-in_ok-advance-in_default g c =
       allots = subst (λ (q : Passing). AllotsAll c.in_ok-applied.applied c.args.entry.now c.args.self.now.resources c.args.self.now.passes c.advance.new.self.resources q) (sym last.passes)
           (subst (λ (r : Held). AllotsAll c.in_ok-applied.applied c.args.entry.now c.args.self.now.resources c.args.self.now.passes r c.change.new.self.passes) (sym last.resources)
           (allots_through c.in_ok-applied.applied c.args.entry.now c.args.self.now.resources c.args.self.now.passes mid.resources mid.passes c.change.new.self.resources c.change.new.self.passes stays c.in_ok-applied.ensures.allots));
+      rest = padding_same c.args.self.now c.change.new.self c.advance.new.self last.resources last.passes
+          (padding_then c.args.self.now c.run_picked.new.self mid c.change.new.self c.run_picked.ensures.rests c.run_picked.ensures.allotted c.touch.ensures.same c.touch.ensures.allotted c.in_ok-touch.ensures.rests c.in_ok-applied.ensures.rest);
       failed = c.advance.ensures.failed ∙ ap (λ (d : Device). d.failed) whole ∙ c.run_picked.ensures.failed;
       error = tt;
     }

@@ -29,3 +29,6 @@ returns-clause-allots c = λ d is.
     let w = c.in_ok-begin_pass.ensures in
     let e = w.allots d is in
     (e.0, e.1, e.2, parts_counted c.begin_pass.new.passes c.begin_pass.new.self e.0 c.args.defrag e.2 w.passing w.opens.opened (parts_begin c.args.self.now.passes c.begin_pass.new.passes c.args.self.now.resources.backed c.begin_pass.new.self.backed c.args.defrag w.opens))
+
+pub returns-clause-rest : goal.returns-clause-rest
+returns-clause-rest c = λ closed none. let was = c.in_ok-begin_pass.ensures.opens.opened in absurd cc

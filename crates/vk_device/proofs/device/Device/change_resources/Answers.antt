@@ -1,3 +1,4 @@
+use Rattle.vk_resources.proofs.RestThrough.{rest_any}
 use Rattle.vk_device.proofs.Entering.{fits_next}
 use Rattle.vk_device.proofs.PassBytes.{entry_bytes}
 use Rattle.vk_device.proofs.PassRules.{spares_passes}
@@ -35,3 +36,8 @@ returns-clause-allots c =
     (w.agree m.past m.stands fits c.args.self.now.passes m.passes.passing (spares_passes m.number x m.past c.args.self.now.resources c.args.self.now.passes m.clean m.stands c.are_resources.ensures m.passes.passing m.passes.matches)
     (entry_bytes m.number x m.past c.args.self.now.resources c.args.self.now.passes m.clean m.stands c.are_resources.ensures m.passes.passing m.passes.matches m.passes.clean) m.passes.agree)
     c.in_ok-applied.applied (w.done m.number m.past m.stands fits) (w.allots m.past m.stands fits)
+
+pub returns-clause-rest : goal.returns-clause-rest
+returns-clause-rest c = λ closed none.
+    let m = c.requires.may in
+    rest_any c.args.self.now.resources c.apply.new.self _ (c.in_ok-applied.ensures.rest m.past m.stands (plain_fits m.past c.args.entry.now c.requires.plain (fits_next m.number c.args.entry.now m.past m.clean)))

@@ -57,3 +57,9 @@ returns-clause-allots c = λ d is.
     let t = c.end_pass.new.self in
     let ready = end_pass_fits r.number r.past s p c.args.defrag c.args.ignored.now c.args.destroyed.now r.clean r.stands r.passes.matches in
     (_, refl, if_there (λ (k : ℕ). EndAllots (allotted s) p (allotted t) q k c.args.ignored.now c.args.destroyed.now) p.opened c.args.defrag ready.0 w.allots d is, refl)
+
+pub returns-clause-rest : goal.returns-clause-rest
+returns-clause-rest c = λ closed none.
+    let r = c.requires in
+    let was = (end_pass_fits r.number r.past c.args.self.now.resources c.args.self.now.passes c.args.defrag c.args.ignored.now c.args.destroyed.now r.clean r.stands r.passes.matches).0 in
+    absurd cc

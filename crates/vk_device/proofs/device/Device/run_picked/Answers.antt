@@ -1,13 +1,16 @@
-use Rattle.std.proofs.Common.{◌-◌, refl, ap, ◌∙◌, arith}
+use Rattle.std.proofs.Common.{◌-◌, ℕ, List, refl, ap, subst, ◌∙◌, arith}
+use Rattle.std.specs.Prelude.{Contains}
 use Rattle.vk_device.specs.declared.device.Device.{Device}
-use Rattle.vk_model.proofs.Lists.Members.{place_has}
-use Rattle.vk_backing.specs.Passing.{parts_left}
+use Rattle.vk_model.proofs.Lists.Members.{none_in, place_has}
+use Rattle.vk_backing.specs.Passing.{Passing, parts_left}
+use Rattle.vk_resources.proofs.RestThrough.{rest_any}
 use Rattle.vk_device.proofs.Allocating.{stays_same}
 use Rattle.vk_device.proofs.Picking.{first_turn, may_ask, may_run, may_copy, ready_count, goes_is, entry_picked, fewer_piece, fewer_part, piece_taken, part_taken}
+use Rattle.vk_device.proofs.Resting.{none_left, rests_same, rests_then}
 use Rattle.vk_device.proofs.device.Device.run_picked.Goals as goal
 
 pub loop-commands-init : goal.loop-commands-init
-loop-commands-init g c = record { turns = first_turn g.S.Scheduler.answer g.S.Scheduler.next c.args.self.now (g.S.Scheduler.held c.args.sched.now) c.args.entry.now; same_allotted = refl; stays = λ d is. is; failed = refl }
+loop-commands-init g c = record { turns = first_turn g.S.Scheduler.answer g.S.Scheduler.next c.args.self.now (g.S.Scheduler.held c.args.sched.now) c.args.entry.now; same_allotted = refl; stays = λ d is. is; rests = λ closed. (refl, rests_same c.args.self.now.resources); failed = refl }
 
 pub may_go-goes-requires : goal.may_go-goes-requires
 may_go-goes-requires g c =
@@ -64,6 +67,14 @@ loop-commands-preserved-then-picked-pieces g c = record {
       c.pick-picked.ensures.held c.nth-piece.result (c.nth-piece.ensures.named s.front.past turn.done turn.led.offers) c.nth-piece.ensures.ready c.run.new.self c.run.ensures.ran;
   same_allotted = c.run.ensures.allotted ∙ c.loop-commands.invariant.same_allotted;
   stays = λ d is. stays_same c.loop-commands.self.resources c.run.new.self.resources c.loop-commands.self.passes c.run.new.self.passes c.run.ensures.allotted c.run.ensures.passes d (c.loop-commands.invariant.stays d is);
+  rests = λ closed.
+      let r = c.requires in
+      let before = c.loop-commands.invariant.rests closed in
+      let may = may_run g.S.Scheduler.answer g.S.Scheduler.next r.0 r.1 r.2 r.3 c.args.self.now (g.S.Scheduler.held c.args.sched.now) c.args.entry.now r.4 c.loop-commands.self (g.S.Scheduler.held c.loop-commands.sched) (c.loop-commands.invariant.turns r.0 r.1 r.2 r.3 r.4) c.nth-piece.result c.nth-piece.ensures.ready in (
+        c.run.ensures.passes ∙ before.0,
+        rests_then c.args.self.now.resources c.loop-commands.self.resources c.run.new.self.resources c.loop-commands.invariant.same_allotted before.1
+            (rest_any c.loop-commands.self.resources c.run.new.self.resources _ (c.run.ensures.rest may.t may.steps may.s may.led may.sound)) c.run.ensures.placed c.run.ensures.shapes,
+      );
   failed = c.run.ensures.failed ∙ c.loop-commands.invariant.failed;
 }
 
@@ -79,5 +90,15 @@ loop-commands-preserved g c = record {
       (place_has (parts_left c.loop-commands.self.passes) (c.pick-picked.result - c.count-pieces.result) c.nth_part-part.result c.nth_part-part.ensures) c.copy_next.new.self c.copy_next.ensures.copied (ap (λ (d : Device). d.offers) c.copy_next.ensures.same);
   same_allotted = c.copy_next.ensures.allotted ∙ c.loop-commands.invariant.same_allotted;
   stays = λ d is. c.copy_next.ensures.stays d (c.loop-commands.invariant.stays d is);
+  rests = λ closed.
+      let before = c.loop-commands.invariant.rests closed in
+      let none = none_left c.loop-commands.self.passes (ap (λ (p : Passing). p.opened) before.0 ∙ closed) in
+      absurd (none_in c.nth_part-part.result (subst (λ (l : List ℕ). Contains l c.nth_part-part.result) none (place_has (parts_left c.loop-commands.self.passes) (c.pick-picked.result - c.count-pieces.result) c.nth_part-part.result c.nth_part-part.ensures)));
   failed = ap (λ (d : Device). d.failed) c.copy_next.ensures.same ∙ c.loop-commands.invariant.failed;
 }
+
+pub returns-then-pieces-parts-clause-rests : goal.returns-then-pieces-parts-clause-rests
+returns-then-pieces-parts-clause-rests g c = c.loop-commands.invariant.rests
+
+pub returns-else-picked-pieces-2-clause-rests : goal.returns-else-picked-pieces-2-clause-rests
+returns-else-picked-pieces-2-clause-rests g c = c.loop-commands.invariant.rests

@@ -1,6 +1,8 @@
 use Rattle.std.proofs.Common.{◌+◌, ◌<◌, refl, ap, sym, ◌∙◌, subst}
 use Rattle.vk_backing.specs.Allotted.{Allotted}
 use Rattle.vk_resources.specs.Allocating.{allotted}
+use Rattle.vk_resources.proofs.RestThrough.{rest_any}
+use Rattle.vk_device.specs.Inner.Ready.{Rests}
 use Rattle.vk_device.specs.declared.device.Device.{Device}
 use Rattle.vk_device.proofs.Entering.{clean_next, fits_next}
 use Rattle.vk_device.proofs.Touching.{SoFar, atoms_are, begins, took, skipped, touched_fits, touches_all}
@@ -8,10 +10,11 @@ use Rattle.vk_model.specs.Run.Runs.{atom_count}
 use Rattle.vk_device.proofs.PassBytes.{atom_bytes}
 use Rattle.vk_device.proofs.PassCaches.{atom_clean}
 use Rattle.vk_device.proofs.device.Device.touch.Goals.{then-pick-eq1+in_ok-turn_over, else-pick-eq1}
+use Rattle.vk_device.proofs.Resting.{rests_same, rests_then}
 use Rattle.vk_device.proofs.device.Device.touch.Goals as goal
 
 pub loop-atom-init : goal.loop-atom-init
-loop-atom-init g c = record { same = refl; allotted = refl; so_far = begins g.S.Scheduler.answer g.S.Scheduler.next c.args.entry.now c.atoms-atoms.result (g.S.Scheduler.held c.args.sched.now) c.args.self.now.resources }
+loop-atom-init g c = record { same = refl; allotted = refl; rests = rests_same c.args.self.now.resources; so_far = begins g.S.Scheduler.answer g.S.Scheduler.next c.args.entry.now c.atoms-atoms.result (g.S.Scheduler.held c.args.sched.now) c.args.self.now.resources }
 
 pub turn_over-requires : goal.turn_over-requires
 turn_over-requires g c =
@@ -31,6 +34,8 @@ loop-atom-preserved g c =
       | then-pick-eq1+in_ok-turn_over w ↦ record {
         same = w.self-is ∙ ap (λ (d : Device). record d { resources = w.turn_over.new.self }) c.loop-atom.invariant.same ∙ ap (λ (d : Device). record c.args.self.now { resources = d.resources }) (sym w.self-is);
         allotted = ap (λ (d : Device). allotted d.resources) w.self-is ∙ w.turn_over.ensures.allotted ∙ c.loop-atom.invariant.allotted;
+        rests = subst (λ (d : Device). Rests c.args.self.now.resources d.resources) (sym w.self-is)
+            (rests_then c.args.self.now.resources c.loop-atom.self.resources w.turn_over.new.self c.loop-atom.invariant.allotted c.loop-atom.invariant.rests (rest_any c.loop-atom.self.resources w.turn_over.new.self _ w.in_ok-turn_over.ensures.rest) w.turn_over.ensures.placed w.turn_over.ensures.shapes);
         so_far = subst (λ (d : Device). SoFar g.S.Scheduler.answer g.S.Scheduler.next c.args.entry.now c.atoms-atoms.result (c.loop-atom.atom + 1) (g.S.Scheduler.held c.args.sched.now) (g.S.Scheduler.held c.pick.new.self) c.args.self.now.resources d.resources) (sym w.self-is)
             (took g.S.Scheduler.answer g.S.Scheduler.next c.args.entry.now c.atoms-atoms.result (g.S.Scheduler.held c.args.sched.now) c.args.self.now.resources c.loop-atom.atom (g.S.Scheduler.held c.loop-atom.sched) (g.S.Scheduler.held c.pick.new.self)
             c.loop-atom.self.resources c.loop-atom-test.true c.loop-atom.invariant.so_far c.pick.result c.pick.ensures.answer c.pick.ensures.next w.if-pick-eq1.true w.turn_over.new.self w.in_ok-turn_over.ensures.turned w.turn_over.ensures.matches w.turn_over.ensures.placed w.turn_over.ensures.shapes (ap (λ (a : Allotted). a.backed) w.turn_over.ensures.allotted)
@@ -42,6 +47,7 @@ loop-atom-preserved g c =
       | else-pick-eq1 w ↦ record {
         same = w.self-is ∙ c.loop-atom.invariant.same ∙ ap (λ (d : Device). record c.args.self.now { resources = d.resources }) (sym w.self-is);
         allotted = ap (λ (d : Device). allotted d.resources) w.self-is ∙ c.loop-atom.invariant.allotted;
+        rests = subst (λ (d : Device). Rests c.args.self.now.resources d.resources) (sym w.self-is) c.loop-atom.invariant.rests;
         so_far = subst (λ (d : Device). SoFar g.S.Scheduler.answer g.S.Scheduler.next c.args.entry.now c.atoms-atoms.result (c.loop-atom.atom + 1) (g.S.Scheduler.held c.args.sched.now) (g.S.Scheduler.held c.pick.new.self) c.args.self.now.resources d.resources) (sym w.self-is)
             (skipped g.S.Scheduler.answer g.S.Scheduler.next c.args.entry.now c.atoms-atoms.result (g.S.Scheduler.held c.args.sched.now) c.args.self.now.resources c.loop-atom.atom (g.S.Scheduler.held c.loop-atom.sched) (g.S.Scheduler.held c.pick.new.self)
             c.loop-atom.self.resources c.loop-atom-test.true c.loop-atom.invariant.so_far c.pick.result c.pick.ensures.answer c.pick.ensures.next w.if-pick-eq1.false);
@@ -65,3 +71,6 @@ returns-clause-same g c = c.loop-atom.invariant.same
 
 pub returns-clause-allotted : goal.returns-clause-allotted
 returns-clause-allotted g c = c.loop-atom.invariant.allotted
+
+pub returns-clause-rests : goal.returns-clause-rests
+returns-clause-rests g c = c.loop-atom.invariant.rests
