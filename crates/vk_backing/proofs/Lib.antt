@@ -51,3 +51,4 @@ mod Closing
 mod Closed
 pub mod Agreeing
 pub mod AgreeingSteps
+pub mod Ranked

@@ -5,6 +5,7 @@ ghost use Rattle.vk_model.specs.Run.Runs.{parts_left as stage_parts};
 ghost use Rattle.vk_backing.specs.Passing.{parts_left};
 ghost use Rattle.vk_backing.specs.PassAllots.{StaysAllotted};
 ghost use Rattle.vk_resources.specs.Allocating.{allotted};
+ghost use Rattle.vk_device.specs.PassEnds.{PassesEndFrom};
 ghost use Rattle.vk_device.specs.Led.{Led, MayCopy, HasCopied, CopiesOnly};
 ghost use Rattle.vk_device.specs.declared.applied.ApplyError.TheVariants.{Failed};
 
@@ -12,6 +13,7 @@ use crate::applied::ApplyError;
 use crate::device::Device;
 use std::alloc::AllocError;
 use vk_laws::direct_runs_go_on;
+use vk_model::passes_of_pools_end;
 
 impl<'a> Device<'a> {
     /// Copies a part of the open pass that is left.
@@ -73,5 +75,15 @@ impl<'a> Device<'a> {
         }
         self.copy_next(part);
         Ok(())
+    }
+    /// While no resource is made in a pool, its passes come to an end: of a pool in which nothing moves
+    /// now, the sum of the ranks of its resources with the moves that are made never rises, and at most
+    /// as many passes end with a move that was made as it has resources times places of 16 bytes,
+    /// whichever entries are applied. It does nothing.
+    pub fn passes_end(&self)
+        ensures { PassesEndFrom self.now.resources }
+    {
+        passes_of_pools_end();
+        self.resources.are_resources();
     }
 }

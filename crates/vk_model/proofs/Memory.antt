@@ -13,5 +13,7 @@ pub mod PoolNumbers
 pub mod PassBegins
 pub mod RankSums
 pub mod PassesEnd
+pub mod PoolsById
+pub mod PassTraces
 pub mod Parts
 pub mod PoolPlaces

@@ -10,3 +10,4 @@ pub mod Allocations
 pub mod PlaceLaws
 pub mod PassRanks
 pub mod PassLaws
+pub mod PassTraces

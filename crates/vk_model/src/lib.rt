@@ -36,7 +36,7 @@ pub use layout::{Format, Layout};
 pub use masks::{Accesses, Stages, Usage};
 pub use passes::{
     freeing_lowers_ranks, moves_stay_down, no_moves_left, parts_follow, passes_end,
-    passes_lead_down, places_lie_inside, ranks_are_bounded,
+    passes_lead_down, passes_of_pools_end, places_lie_inside, ranks_are_bounded,
 };
 pub use places::{
     blocks_give, linear_frees, linear_stays, linear_takes, passes_lower_ranks, pool_stays,

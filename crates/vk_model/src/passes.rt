@@ -1,5 +1,6 @@
 //! Laws of the passes of a defragmentation, each the contract of a function that does nothing.
 ghost use Rattle.vk_model.specs.Memory.PassLaws.{PlacesLieInside, PassesLeadDown, MovesStayDown, RanksAreBounded, FreeingLowersRanks, PassesEnd, NoMovesLeft, PartsFollow};
+ghost use Rattle.vk_model.specs.Memory.PassTraces.{PassesOfPoolsEnd};
 
 /// In a pool whose blocks have one size, a resource that is at its place lies in the blocks.
 pub fn places_lie_inside()
@@ -31,6 +32,14 @@ pub fn freeing_lowers_ranks()
 /// has resources times places.
 pub fn passes_end()
     ensures { PassesEnd }
+{}
+
+/// The same as entries of a trace are applied: while no resource is made in a pool, and none of it
+/// ends in a pass, the sum of the ranks of its resources with the moves that are made never rises, and
+/// at most as many passes end with a move that was made as it has resources times places, whatever
+/// other entries come between.
+pub fn passes_of_pools_end()
+    ensures { PassesOfPoolsEnd }
 {}
 
 /// A pass without limits has no moves exactly where no resource has a move target.

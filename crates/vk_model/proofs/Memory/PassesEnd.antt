@@ -1,5 +1,5 @@
 -- Passes with a move that is made come to an end.
-use Rattle.std.proofs.Common.{◌≡◌, ℕ, ◌*◌, ◌/◌, ◌≤◌, List, [], ◌∷◌, map, length, sum, Bool, true, false, not, cond, ◌==◌, nat_lt, refl, ap, sym, ◌∙◌, subst, arith}
+use Rattle.std.proofs.Common.{◌≡◌, ℕ, ◌+◌, ◌*◌, ◌/◌, ◌≤◌, List, [], ◌∷◌, map, length, sum, Bool, true, false, not, cond, ◌==◌, nat_lt, refl, ap, sym, ◌∙◌, subst, arith}
 use Rattle.std.specs.Prelude.{Contains, count_by, if◌then◌else◌}
 use Rattle.std.specs.List.{filter, fold}
 use Rattle.std.proofs.lemmas.Bool.Decides.{nat_tests}
@@ -9,9 +9,9 @@ use Rattle.std.proofs.lemmas.List.Sums.{sum_by-cons}
 use Rattle.vk_model.specs.Basics.{among}
 use Rattle.vk_model.specs.Memory.MoveTargets.{Numbered, Resident, Moved}
 use Rattle.vk_model.specs.Memory.Pools.{numbered_blocks, blocks_below, rank_sum, pool_without}
-use Rattle.vk_model.specs.Memory.Allocations.{PoolMemory, without_resident, moved_to, move_ended, pass_ended}
+use Rattle.vk_model.specs.Memory.Allocations.{PoolMemory, PassBegins, without_resident, moved_to, move_ended, pass_ended}
 use Rattle.vk_model.specs.Memory.PassRanks.{IsDown, AreOnce, made_moves}
-use Rattle.vk_model.specs.Memory.PassLaws.{IsRanked, PoolStep, PassBegan, PassEnded, ResourceEnded, Happens, PassesEnd}
+use Rattle.vk_model.specs.Memory.PassLaws.{IsRanked, AllArePlaced, PoolStep, PassBegan, PassEnded, ResourceEnded, Happens, PassesEnd}
 use Rattle.vk_model.proofs.Lists.Members.{none_in, filtered, mapped_from}
 use Rattle.vk_model.proofs.Memory.PassRanks.{below_of, lost_shrinks, moves_shrink, all_lost_shrink, sums_fall, filter_sum, lost_sum, moves_sum, moved_id}
 use Rattle.vk_model.proofs.Memory.PoolNumbers.{numbered, freed_from, all_freed_from, sizes_stay, numbers_stay}
@@ -98,27 +98,48 @@ none_leads size blocks q none fewer = record {
 
 -- ---- all steps
 
+-- steps happen to a pool, as by `Happens`, and leave this one
+abbrev pub HappensTo : PoolMemory → List PoolStep → List ℕ → PoolMemory → Type 0
+HappensTo q [] made r = (made ≡ []) × (r ≡ q)
+HappensTo q (PassBegan f ∷ steps) made r = (e : PoolMemory) × PassBegins f q e × HappensTo e steps made r
+HappensTo q (PassEnded kept lost ∷ steps) made r = (later : List ℕ) × (made ≡ made_moves kept q.moves ∷ later) × HappensTo (pass_ended kept lost q) steps later r
+HappensTo q (ResourceEnded i ∷ steps) made r = (q.moves ≡ []) × HappensTo (without_resident i q) steps made r
+
+happens_to : (steps : List PoolStep) (q : PoolMemory) (made : List ℕ) → Happens q steps made → (r : PoolMemory) × HappensTo q steps made r
+happens_to [] q made none = (q, (none, refl))
+happens_to (PassBegan f ∷ steps) q made (e, begins, happens) = let rest = happens_to steps e made happens in (rest.0, (e, begins, rest.1))
+happens_to (PassEnded kept lost ∷ steps) q made (later, is, happens) = let rest = happens_to steps (pass_ended kept lost q) later happens in (rest.0, (later, is, rest.1))
+happens_to (ResourceEnded i ∷ steps) q made (none, happens) = let rest = happens_to steps (without_resident i q) made happens in (rest.0, (none, rest.1))
+
+-- the sum of the ranks of the resources of a pool
+abbrev pub its_ranks : ℕ → PoolMemory → ℕ
+its_ranks size q = rank_sum size (numbered_blocks q.pool.blocks) q.residents
+
 module _ (size : ℕ) where
-  made_below : (steps : List PoolStep) (q : PoolMemory) (made : List ℕ) (blocks : List Numbered) → IsRanked size q → LeadsIn size blocks q → Happens q steps made → sum made ≤ rank_sum size blocks q.residents
-  made_below [] q made blocks ranked leads none = rw none (omega arith)
-  made_below (PassBegan f ∷ steps) q made blocks ranked leads (e, begins, happens) =
+  made_below : (steps : List PoolStep) (q : PoolMemory) (made : List ℕ) (blocks : List Numbered) (r : PoolMemory) → IsRanked size q → LeadsIn size blocks q → HappensTo q steps made r → its_ranks size r + sum made ≤ rank_sum size blocks q.residents
+  made_below [] q made blocks r ranked leads (none, is) =
+      let less = sums_fall size blocks (numbered_blocks q.pool.blocks) leads.fewer q.residents in
+      let now = ap (its_ranks size) is in
+      let nothing = ap sum none in
+      omega (arith, less, now, nothing)
+  made_below (PassBegan f ∷ steps) q made blocks r ranked leads (e, begins, happens) =
       let kept = begins_kept size f q e ranked begins in
       let now = numbered_blocks e.pool.blocks in
       let down = passes_lead_down.down size f q e ranked begins in
-      let rest = made_below steps e made now kept.ranked (record { down = down.down; once = down.once; fewer = λ n. omega arith }) happens in
+      let rest = made_below steps e made now r kept.ranked (record { down = down.down; once = down.once; fewer = λ n. omega arith }) happens in
       let less = sums_fall size blocks now (λ n. (let same = kept.below n in let old = leads.fewer n in omega (arith, same, old))) e.residents in
       let same = ap (λ (rs : List Resident). rank_sum size blocks rs) kept.residents in
       omega (arith, rest, less, same)
-  made_below (PassEnded kept lost ∷ steps) q made blocks ranked leads (later, is, happens) =
+  made_below (PassEnded kept lost ∷ steps) q made blocks r ranked leads (later, is, happens) =
       let moved : PoolMemory = record (fold (move_ended kept) q q.moves) { moves = [] } in
       let fewer = λ (n : ℕ). (let one = moves_shrink kept q.moves q n in let two = all_lost_shrink lost moved n in let old = leads.fewer n in (let all : below_of (pass_ended kept lost q).pool.blocks n ≤ blocks_below blocks n = omega (arith, one, two, old) in all)) in
-      let rest = made_below steps (pass_ended kept lost q) later blocks (pass_ended_ranked size kept lost q ranked) (none_leads size blocks (pass_ended kept lost q) (lost_moves lost moved) fewer) happens in
+      let rest = made_below steps (pass_ended kept lost q) later blocks r (pass_ended_ranked size kept lost q ranked) (none_leads size blocks (pass_ended kept lost q) (lost_moves lost moved) fewer) happens in
       let left = lost_sum size blocks lost moved in
       let down = moves_sum size blocks kept q.moves q leads.down leads.once in
       let total = ap sum is ∙ sum_by-cons (λ (k : ℕ). k) (made_moves kept q.moves) later in
       omega (arith, rest, left, down, total)
-  made_below (ResourceEnded i ∷ steps) q made blocks ranked leads (none, happens) =
-      let rest = made_below steps (without_resident i q) made blocks (without_ranked size i q ranked)
+  made_below (ResourceEnded i ∷ steps) q made blocks r ranked leads (none, happens) =
+      let rest = made_below steps (without_resident i q) made blocks r (without_ranked size i q ranked)
       (none_leads size blocks (without_resident i q) none (λ n. (let less = lost_shrinks i q n in let old = leads.fewer n in omega (arith, less, old)))) happens in
       let fewer = filter_sum size blocks (λ a. not (a.id == i)) q.residents in
       omega (arith, rest, fewer)
@@ -126,15 +147,22 @@ module _ (size : ℕ) where
 one_each : (k : ℕ) → cond (nat_lt 0 k) 1 0 ≤ k
 one_each k = grind (arith, nat_tests)
 
-count_below : (made : List ℕ) → count_by (λ k. nat_lt 0 k) made ≤ sum made
+-- and where nothing moves at first
+pub falls_to : (size : ℕ) (q : PoolMemory) (steps : List PoolStep) (made : List ℕ) (r : PoolMemory) → IsRanked size q → q.moves ≡ [] → HappensTo q steps made r → its_ranks size r + sum made ≤ its_ranks size q
+falls_to size q steps made r ranked none happens = let blocks = numbered_blocks q.pool.blocks in made_below size steps q made blocks r ranked (none_leads size blocks q none (λ n. omega arith)) happens
+
+pub at_most : (size : ℕ) (q : PoolMemory) (made : List ℕ) (left : ℕ) → AllArePlaced size q → left + sum made ≤ its_ranks size q → sum made ≤ length q.residents * (length q.pool.blocks * (size / 16))
+at_most size q made left placed falls =
+    let bound = ranks_are_bounded size (numbered_blocks q.pool.blocks) q.residents placed.residents in
+    let count = length-map q.pool.blocks numbered in
+    let places = ap (λ n. length q.residents * (n * (size / 16))) count in
+    omega (arith, falls, bound, places)
+
+pub count_below : (made : List ℕ) → count_by (λ k. nat_lt 0 k) made ≤ sum made
 count_below [] = omega arith
 count_below (k ∷ made) = omega (arith, sum_by-cons (λ (n : ℕ). cond (nat_lt 0 n) 1 0) k made, sum_by-cons (λ (n : ℕ). n) k made, one_each k, count_below made)
 
 pub passes_end : PassesEnd
 passes_end size q steps made ranked placed none happens =
-    let blocks = numbered_blocks q.pool.blocks in
-    let total = made_below size steps q made blocks ranked (none_leads size blocks q none (λ n. omega arith)) happens in
-    let bound = ranks_are_bounded size blocks q.residents placed.residents in
-    let count = length-map q.pool.blocks numbered in
-    let places = ap (λ n. length q.residents * (n * (size / 16))) count in
-    (count_below made, omega (arith, total, bound, places))
+    let all = happens_to steps q made happens in
+    (count_below made, at_most size q made (its_ranks size all.0) placed (falls_to size q steps made all.0 ranked none all.1))
