@@ -1,6 +1,7 @@
 use crate::counts::push_count;
 use crate::masks::push_mask;
-use crate::names::{format_name, sharing_name, tiling_name};
+use crate::names::{format_name, noun_of, sharing_name, tiling_name};
+use crate::passes::push_pass_entry;
 use crate::ranges::{push_bytes_of, push_length_of, push_more};
 use std::alloc::AllocError;
 use vk_model::{
@@ -39,12 +40,12 @@ pub fn push_entry(out: &mut String, entry: &Entry, trace: &[Entry]) -> Result<()
             push_count(out, "submits ", count, "batch", "batches")?;
             write!(out, " to queue {queue}")
         }
-        _ => push_host_access(out, entry),
+        _ => push_host_access(out, entry, trace),
     }
 }
 
 /// What an entry does that maps memory or accesses it.
-fn push_host_access(out: &mut String, entry: &Entry) -> Result<(), AllocError> {
+fn push_host_access(out: &mut String, entry: &Entry, trace: &[Entry]) -> Result<(), AllocError> {
     match entry {
         Entry::Map { buffer } => write!(out, "maps the memory of buffer {buffer}"),
         Entry::Unmap { buffer } => write!(out, "unmaps the memory of buffer {buffer}"),
@@ -68,33 +69,17 @@ fn push_host_access(out: &mut String, entry: &Entry) -> Result<(), AllocError> {
             offset,
             size,
         } => push_length_of(out, "invalidates", *offset, *size, *buffer),
-        _ => push_pool_entry(out, entry),
+        _ => push_pool_entry(out, entry, trace),
     }
 }
 
-/// What an entry does with pools and passes.
-fn push_pool_entry(out: &mut String, entry: &Entry) -> Result<(), AllocError> {
+/// What an entry does with pools.
+fn push_pool_entry(out: &mut String, entry: &Entry, trace: &[Entry]) -> Result<(), AllocError> {
     match entry {
         Entry::Pool { id, info } => push_pool(out, *id, info),
         Entry::DropPool { pool } => write!(out, "destroys pool {pool}"),
-        Entry::Defrag { id, pool, .. } => write!(out, "begins defragmentation {id} of pool {pool}"),
-        Entry::Pass { defrag } => write!(out, "begins a pass of defragmentation {defrag}"),
-        Entry::EndPass { defrag, .. } => write!(out, "ends a pass of defragmentation {defrag}"),
-        Entry::EndDefrag { defrag } => write!(out, "ends defragmentation {defrag}"),
-        _ => Ok(()),
+        _ => push_pass_entry(out, entry, trace),
     }
-}
-
-/// What a resource is called that has this id: by the first entry that makes one.
-fn noun_of(trace: &[Entry], resource: u32) -> &'static str {
-    for entry in trace {
-        match entry {
-            Entry::Buffer { id, .. } if *id == resource => return "buffer",
-            Entry::Image { id, .. } if *id == resource => return "image",
-            _ => {}
-        }
-    }
-    "resource"
 }
 
 fn push_place(out: &mut String, place: Place) -> Result<(), AllocError> {

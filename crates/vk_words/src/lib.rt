@@ -8,6 +8,7 @@ mod elements;
 mod entries;
 mod masks;
 mod names;
+mod passes;
 mod points;
 mod ranges;
 mod rules;

@@ -1,5 +1,5 @@
 use std::alloc::AllocError;
-use vk_model::{Format, Kind, Layout, Sharing};
+use vk_model::{Entry, Format, Kind, Layout, Sharing};
 
 /// The name of a layout in Vulkan, or its number where no transfer has to do with it.
 pub fn push_layout(out: &mut String, layout: Layout) -> Result<(), AllocError> {
@@ -39,4 +39,16 @@ pub fn sharing_name(sharing: Sharing) -> &'static str {
         Sharing::Exclusive => "exclusive",
         Sharing::Concurrent => "concurrent",
     }
+}
+
+/// What a resource is called that has this id: by the first entry that makes one.
+pub fn noun_of(trace: &[Entry], resource: u32) -> &'static str {
+    for entry in trace {
+        match entry {
+            Entry::Buffer { id, .. } if *id == resource => return "buffer",
+            Entry::Image { id, .. } if *id == resource => return "image",
+            _ => {}
+        }
+    }
+    "resource"
 }
