@@ -144,9 +144,9 @@ pass_rows() {
         pool_row "full_block_$n" "$n" $((n * 160 / 1024 * 1024 + 1024)) \
             'i < n - 1 ? 160 : block - 160 * (n - 1)' 0 1 1 10
     done
-    for n in 8192 16384; do
-        pool_row "several_full_blocks_$n" "$n" $((n * 4)) 64 0 16 16 10
-        pool_row "several_blocks_$n" "$n" $((n * 4)) 64 'i % 2 == 0' 16 8
+    for n in 2048 4096; do
+        pool_row "several_full_blocks_$n" "$n" $((n * 64)) 1024 0 16 16 10
+        pool_row "several_blocks_$n" "$n" $((n * 64)) 1024 'i % 2 == 0' 16 8
     done
     for n in 30000 60000; do
         pool_row "kept_and_destroyed_$n" "$n" "$most" 16 0 1 1 1 1
