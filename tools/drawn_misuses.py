@@ -21,8 +21,8 @@ class Misuses(Passes):
         outside = [self.never_open, self.dropped, self.busy_before]
         outside += [self.twice_defragmented, self.linear] * 2
         inside = [self.pass_in_pass, self.ended_inside, *[self.destroyed_inside] * 2, self.busy_inside]
-        inside += [self.written_by_host, self.written_by_command] * 2 + [self.changed_inside]
-        inside += [self.listed_again, self.listed_mapped]
+        inside += [self.written_by_host, self.written_by_command, self.changed_inside] * 2
+        inside += [self.listed_again] + [self.listed_mapped] * 2
         inside += [self.listed_elsewhere, self.listed_dead, self.listed_at_will]
         wrong = self.random.choice(outside + inside)
         defrag, pool = self.combed()
