@@ -1,26 +1,28 @@
-ghost use Rattle.std.specs.Prelude.{◌≡◌, ◌||◌, nat_eq};
-ghost use Rattle.std.specs.List.{list_any};
+ghost use Rattle.std.specs.Prelude.{◌≡◌, ◌++◌, nat_eq, take, IfOk};
+ghost use Rattle.std.specs.List.Sorted.{IsNonDecreasing};
 ghost use Rattle.vk_model.specs.Basics.{some_pair, among};
 
-/// Whether an id is twice in two lists, in one of them or in both.
-pub fn some_ids_meet(ids: &[u32], others: &[u32]) -> bool
-    ensures { result ≡ (some_pair nat_eq ids.now || (list_any (λ i. among i others.now) ids.now || some_pair nat_eq others.now)) }
+use std::alloc::{AllocError, Global};
+
+/// Whether an id is twice in two lists, in one of them or in both. The only error is want of
+/// memory.
+pub fn some_ids_meet(alloc: Global, ids: &[u32], others: &[u32]) -> Result<bool, AllocError>
+    ensures { IfOk result (λ met. met ≡ some_pair nat_eq (ids.now ++ others.now)) }
 {
-    has_twice(ids) || share_id(ids, others) || has_twice(others)
+    let mut all = Vec::from_slice(alloc, ids)?;
+    all.extend_from_slice(others)?;
+    all.sort_unstable();
+    Ok(has_twice(all.as_slice()))
 }
 
-fn share_id(ids: &[u32], others: &[u32]) -> bool
-    ensures { result ≡ list_any (λ i. among i others.now) ids.now }
+/// Whether an id is twice among sorted ones. It is then beside itself.
+fn has_twice(sorted: &[u32]) -> bool
+    requires { IsNonDecreasing sorted.now }
+    ensures { result ≡ some_pair nat_eq sorted.now }
 {
-    ids.iter().any(|id| is_among(*id, others))
-}
-
-fn has_twice(ids: &[u32]) -> bool
-    ensures { result ≡ some_pair nat_eq ids.now }
-{
-    let mut rest = ids;
+    let mut rest = sorted;
     while let [first, later @ ..] = rest {
-        if is_among(*first, later) {
+        if begins_with(later, *first) {
             return true;
         }
         rest = later;
@@ -28,8 +30,11 @@ fn has_twice(ids: &[u32]) -> bool
     false
 }
 
-fn is_among(id: u32, others: &[u32]) -> bool
-    ensures { result ≡ among id others.now }
+fn begins_with(ids: &[u32], id: u32) -> bool
+    ensures { result ≡ among id (take 1 ids.now) }
 {
-    others.iter().any(|other| id == *other)
+    match ids {
+        [first, ..] => id == *first,
+        [] => false,
+    }
 }

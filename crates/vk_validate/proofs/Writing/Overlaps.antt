@@ -1,9 +1,7 @@
 -- OVERLAP by the regions of each command.
-use Rattle.std.proofs.Common.{◌≡◌, ℕ, List, [], ◌∷◌, ◌++◌, map, Bool, true, false, ◌&&◌, ◌||◌, ◌==◌, refl, ap, sym, ◌∙◌, Option, Some, None}
-use Rattle.std.specs.Prelude.{nat_eq}
+use Rattle.std.proofs.Common.{◌≡◌, ℕ, List, [], map, Bool, true, false, ◌&&◌, ◌||◌, ◌==◌, refl, ap, sym, ◌∙◌, Option, Some, None}
 use Rattle.std.specs.List.{list_any}
 use Rattle.std.proofs.lemmas.Bool.{eq-eqb}
-use Rattle.std.proofs.lemmas.List.Folds.{list_any-append}
 use Rattle.std.proofs.Math.Bool.{or-false}
 use Rattle.vk_model.specs.declared.command.BufferCopy.{BufferCopy}
 use Rattle.vk_model.specs.declared.command.BufferImageCopy.{BufferImageCopy}
@@ -11,7 +9,7 @@ use Rattle.vk_model.specs.declared.command.ImageCopy.{ImageCopy}
 use Rattle.vk_model.specs.declared.command.SubresourceRange.{SubresourceRange}
 use Rattle.vk_model.specs.declared.command.Cmd.TheVariants as cmd
 use Rattle.vk_model.specs.declared.resource.ImageInfo.{ImageInfo}
-use Rattle.vk_model.specs.Basics.{some_pair, holds, among}
+use Rattle.vk_model.specs.Basics.{some_pair, holds}
 use Rattle.vk_model.specs.Trace.Image.{texel}
 use Rattle.vk_model.specs.Trace.Objects.{image}
 use Rattle.vk_model.specs.Trace.Point.{Past}
@@ -61,14 +59,3 @@ module _ (past : Past) where
         any_map (λ w. list_any (areas_meet w) (map (λ g. Texels i (region_box g)) gs)) (Rows b (texel m.format)) gs
         ∙ none_passes_any _ gs (λ g c. any_map (areas_meet (Rows b (texel m.format) g)) (λ g. Texels i (region_box g)) gs ∙ none_passes_any _ gs (λ h d. refl)) in
         ap (λ t. (some_pair areas_meet (map (Rows b (texel m.format)) gs) || t) || false) no_texel ∙ or-false-false _ ∙ own_pairs b (λ g h. rows_meet (texel m.format) g (texel m.format) h) (Rows b (texel m.format)) (λ g h. refl) gs
-
--- an id twice
-pub twice : (xs ys : List ℕ) → (some_pair nat_eq xs || (list_any (λ i. among i ys) xs || some_pair nat_eq ys)) ≡ some_pair nat_eq (xs ++ ys)
-twice [] ys = refl
-twice (x ∷ xs) ys = regroup (among x xs) (some_pair nat_eq xs) (among x ys) (list_any (λ i. among i ys) xs) (some_pair nat_eq ys) ∙ ap (λ b. (among x xs || among x ys) || b) (twice xs ys) ∙ ap (λ b. b || some_pair nat_eq (xs ++ ys)) (sym (list_any-append (nat_eq x) xs ys)) where
-  regroup : (a b c d e : Bool) → ((a || b) || ((c || d) || e)) ≡ ((a || c) || (b || (d || e)))
-  regroup true b c d e = refl
-  regroup false true true d e = refl
-  regroup false true false d e = refl
-  regroup false false true d e = refl
-  regroup false false false d e = refl

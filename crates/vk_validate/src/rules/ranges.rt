@@ -17,7 +17,7 @@ use crate::images::{
 use crate::overlapping::overlaps;
 use crate::regions::{ends_past, has_destination_past, has_rows_past, has_short, has_source_past};
 use crate::twice::some_ids_meet;
-use std::alloc::AllocError;
+use std::alloc::{AllocError, Global};
 use vk_history::History;
 use vk_image_tiles::texel_size;
 use vk_model::{
@@ -365,21 +365,21 @@ pub fn breaks_overlap(history: &History<'_>, point: &Point<'_>) -> Result<bool, 
     ensures { IfOk result (λ broken. broken ≡ ranges.breaks_overlap (past history.now) (point_of point.now)) }
 {
     match point.action {
-        Action::Host(entry) => Ok(lists_twice(entry)),
+        Action::Host(entry) => lists_twice(history.alloc(), entry),
         Action::Run(command) => overlaps(history, command),
         _ => Ok(false),
     }
 }
 
-fn lists_twice(entry: &Entry) -> bool
-    ensures { result ≡ ranges.lists_twice entry.now }
+fn lists_twice(alloc: Global, entry: &Entry) -> Result<bool, AllocError>
+    ensures { IfOk result (λ twice. twice ≡ ranges.lists_twice entry.now) }
 {
     match entry {
         Entry::EndPass {
             ignored,
             destroyed,
             ..
-        } => some_ids_meet(ignored.as_slice(), destroyed.as_slice()),
-        _ => false,
+        } => some_ids_meet(alloc, ignored.as_slice(), destroyed.as_slice()),
+        _ => Ok(false),
     }
 }
