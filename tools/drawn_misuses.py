@@ -120,7 +120,8 @@ class Misuses(Passes):
 
     def changed_inside(self, defrag, pool):
         """A transition of an image that is made in the pool while the pass is open."""
-        image, optimal = 7000 + len(self.trace), self.reading.made[pool][1][3] == 0
+        image = 7000 + len(self.trace)
+        optimal = ["pool", pool, "tlsf", 0] in [entry[:4] for entry in self.trace]
         tiling = "optimal" if optimal else "linear"
         self.offer(["image", image, "R8_UINT", 4, 4, 1, 1, tiling, 3, "exclusive", ["pool", pool]])
         element = [*ALL, IGNORED, IGNORED, image, 0, self.random.choice((1, 1, 7)), [0, 1, 0, 1]]
