@@ -9,8 +9,8 @@
 # - Passes over many resources, in two sizes, of which the second is twice the first: as many as
 #   131,072 entries allow, so 100,000 buffers where every fourth is destroyed, and 80,000 where every
 #   second one is. Where there are several blocks there are fewer: each request walks over all ranges of
-#   a block that is full. Three rows aren't linear: as many passes as resources, each of which looks at
-#   all of them; lists at the end of a pass; and resources of which each is smaller than all above it, so
+#   a block that is full. Two rows aren't linear: as many passes as resources, each of which looks at
+#   all of them; and resources of which each is smaller than all above it, so
 #   that each search walks over all holes.
 # - Moves: what passes take that move so many bytes each, beside memcpy of as many, as often. Moves of 16
 #   bytes say what one takes without its bytes. A resource asks for half a block at most, so no move has
