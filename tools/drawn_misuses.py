@@ -92,8 +92,8 @@ class Misuses(Passes):
     def used(self, pool):
         """A command that reads a buffer of the pool, in a batch that may wait for ever."""
         others = [buffer for buffer in self.sizes if buffer not in self.in_pool(pool)]
-        source, to = self.one_in(pool), self.random.choice(others)
-        size = min(self.sizes.get(source, 1), self.sizes[to])
+        source, to = self.one_in(pool), self.random.choice(others or [UNKNOWN])
+        size = min(self.sizes.get(source, 1), self.sizes.get(to, 1))
         value = self.reading.counters[NEVER_SIGNALED] + 1
         waits = [[NEVER_SIGNALED, value, ALL_COMMANDS]] if self.chance(0.4) else []
         copy = ["copy", source, to, [[0, 0, size]]]
