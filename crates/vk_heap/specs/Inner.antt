@@ -1,4 +1,2 @@
 -- What only the contracts within the crate cite.
-pub mod Ownership
-pub mod Lends
 pub mod IsRegion

@@ -1,7 +1,6 @@
 //! The memory under a device: regions of bytes, and budgets of bytes.
 #![tactic(auto)]
 
-mod block;
 mod budget;
 mod region;
 

@@ -1,42 +1,36 @@
 ghost use Rattle.std.specs.Prelude.{◌≡◌, ◌<◌, ◌≤◌, ◌+◌, ◌*◌, IfOk, length, replicate};
 ghost use Rattle.std.specs.Int.{to_le_bytes, w32};
-ghost use Rattle.vk_heap.specs.Region.{splice, piece, repeated};
+ghost use Rattle.std.specs.Prelude.{◌++◌, ◌-◌, ℕ};
+ghost use Rattle.std.specs.Prelude.{vec_capacity};
+ghost use Rattle.vk_heap.specs.Region.{splice, piece, repeated, with_fresh};
 
-use crate::block::{Block, Lease};
 use std::alloc::{AllocError, Global};
 use std::marker::Model;
 
 /// What a new region is filled with, since Vulkan leaves the contents of new memory undefined.
 const FRESH: u8 = 0xcd;
 
-/// The bytes of one memory object, in a block that is freed when the region is dropped. Contracts
-/// see the list of them.
+/// The bytes of one memory object. Room for all is taken when it is made, and given back when it is
+/// dropped; the bytes are written up to the last one that was reached, so that memory that isn't used
+/// costs no time. Contracts see the list of all bytes.
+#[derive(Drop)]
 pub struct Region {
-    block: Block,
-    lease: Lease<Global>,
-    alloc: Global,
+    /// The bytes up to the last one that was reached.
+    bytes: Vec<u8>,
+    /// How many bytes there are.
+    size: usize,
 }
 
 impl Model for Region {
     ghost use Rattle.std.specs.Prelude.{List, ℕ};
+    ghost use Rattle.vk_heap.specs.Region.{with_fresh};
     ghost use Rattle.vk_heap.specs.Inner.IsRegion.{IsRegion};
 
     ghost Value = { List ℕ };
 
-    ghost view = { λ r. r.block.bytes };
+    ghost view = { λ r. with_fresh r.bytes.items r.size };
 
     ghost invariant = { IsRegion };
-}
-
-impl Drop for Region {
-    fn drop(self) {
-        let Region {
-            block,
-            lease,
-            alloc,
-        } = self;
-        block.free(lease, &alloc);
-    }
 }
 
 impl Region {
@@ -45,24 +39,16 @@ impl Region {
         requires { 0 < size }
         ensures { IfOk result (λ r. r ≡ replicate size 205) }
     {
-        if size > isize::MAX as u64 {
-            return Err(AllocError);
-        }
-        match Block::new(&alloc, size as usize, FRESH) {
-            Some((block, lease)) => Ok(Region {
-                block,
-                lease,
-                alloc,
-            }),
-            None => Err(AllocError),
-        }
+        let size = size as usize;
+        let bytes = Vec::with_capacity(alloc, size)?;
+        Ok(Region { bytes, size })
     }
 
     /// The number of bytes, which never changes.
     pub fn size(&self) -> u64
         ensures { result ≡ length self.now }
     {
-        self.block.as_slice().len() as u64
+        self.size as u64
     }
 
     /// Copies the bytes from byte `at` on into `out`.
@@ -70,9 +56,7 @@ impl Region {
         requires { at + length out.old ≤ length self.now }
         ensures { out.new ≡ piece self.now at (length out.old) }
     {
-        let bytes = self.block.as_slice();
-        let start = at as usize;
-        out.copy_from_slice(&bytes[start..start + out.len()]);
+        copy_out(self.bytes.as_slice(), at as usize, out);
     }
 
     /// Writes `bytes` from byte `at` on, and keeps all others.
@@ -80,9 +64,11 @@ impl Region {
         requires { at + length bytes.now ≤ length self.old }
         ensures { self.new ≡ splice self.old at bytes.now }
     {
-        let all = self.block.as_mut_slice();
+        let _size = self.size;
         let start = at as usize;
-        all[start..start + bytes.len()].copy_from_slice(bytes);
+        let end = start + bytes.len();
+        reach(&mut self.bytes, end);
+        self.bytes.as_mut_slice()[start..end].copy_from_slice(bytes);
     }
 
     /// Writes `word`, little-endian, `words` times from byte `at` on, and keeps all others.
@@ -90,13 +76,12 @@ impl Region {
         requires { at + 4 * words ≤ length self.old }
         ensures { self.new ≡ splice self.old at (repeated words (to_le_bytes w32 word)) }
     {
-        let bytes = self.block.as_mut_slice();
+        let _size = self.size;
         let start = at as usize;
-        fill_words(
-            &mut bytes[start..start + 4 * words as usize],
-            words as usize,
-            word,
-        );
+        let end = start + 4 * words as usize;
+        reach(&mut self.bytes, end);
+        let bytes = self.bytes.as_mut_slice();
+        fill_words(&mut bytes[start..end], words as usize, word);
     }
 
     /// Copies `len` bytes from byte `at` on to `into`, from its byte `to` on, and keeps all others.
@@ -106,14 +91,36 @@ impl Region {
         requires room { to + len ≤ length into.old }
         ensures { into.new ≡ splice into.old to (piece self.now at len) }
     {
-        let bytes = self.block.as_slice();
+        let bytes = self.bytes.as_slice();
         let start = at as usize;
+        let end = start + len as usize;
+        if bytes.len() < end {
+            self.copy_with_fresh(at, into, to, len);
+            return;
+        }
         // Where the compiler knows the length there is no call: texels come in pairs of so many bytes.
         match len {
             8 => into.write(to, &bytes[start..start + 8]),
             16 => into.write(to, &bytes[start..start + 16]),
-            _ => into.write(to, &bytes[start..start + len as usize]),
+            _ => into.write(to, &bytes[start..end]),
         }
+    }
+
+    /// The same where not all bytes have been reached that are copied.
+    fn copy_with_fresh(&self, at: u64, into: &mut Region, to: u64, len: u64)
+        requires from { at + len ≤ length self.now }
+        requires room { to + len ≤ length into.old }
+        ensures { into.new ≡ splice into.old to (piece self.now at len) }
+    {
+        let _size = into.size;
+        let start = to as usize;
+        let end = start + len as usize;
+        reach(&mut into.bytes, end);
+        copy_out(
+            self.bytes.as_slice(),
+            at as usize,
+            &mut into.bytes.as_mut_slice()[start..end],
+        );
     }
 
     /// Copies `len` bytes from byte `at` on, as they were, to byte `to` on, and keeps all others.
@@ -123,9 +130,32 @@ impl Region {
         requires room { to + len ≤ length self.old }
         ensures { self.new ≡ splice self.old to (piece self.old at len) }
     {
-        let bytes = self.block.as_mut_slice();
-        move_bytes(bytes, at as usize, to as usize, len as usize);
+        let (from, into, count) = (at as usize, to as usize, len as usize);
+        reach(&mut self.bytes, from.max(into) + count);
+        move_bytes(self.bytes.as_mut_slice(), from, into, count);
     }
+}
+
+/// Fills up what isn't there yet of the bytes before `end`; there is room for them.
+fn reach(bytes: &mut Vec<u8>, end: usize)
+    requires { end ≤ vec_capacity bytes.old }
+    ensures items { bytes.new.items ≡ bytes.old.items ++ replicate (end - length bytes.old.items) 205 }
+    ensures capacity { vec_capacity bytes.old ≤ vec_capacity bytes.new }
+{
+    if bytes.len() < end && bytes.resize(end, FRESH).is_err() {
+        unreachable!()
+    }
+}
+
+/// Copies bytes from byte `at` on, behind which all others are fresh.
+fn copy_out(bytes: &[u8], at: usize, out: &mut [u8])
+    ensures { (size : ℕ) → at + length out.old ≤ size → length bytes.now ≤ size → out.new ≡ piece (with_fresh bytes.now size) at (length out.old) }
+{
+    let start = at.min(bytes.len());
+    let there = out.len().min(bytes.len() - start);
+    let (known, fresh) = out.split_at_mut(there);
+    known.copy_from_slice(&bytes[start..start + there]);
+    fresh.fill(FRESH);
 }
 
 /// Copies bytes within a slice, at once where the two ranges are apart.

@@ -1,3 +1,5 @@
+mod BlockValues
+mod BlockWalks
 pub mod SlotLemmas
 mod ColumnLemmas
 mod StackLemmas

@@ -31,10 +31,10 @@ use denote.Triple.Walked.{Stays, stay_dropped, walk_of, Goes-dropped}
 use Rattle.vk_nodes.specs.Inner.Ownership.{slots_type}
 use Rattle.vk_nodes.specs.contracts.block.Block.free.{ended, clauses}
 use Rattle.vk_nodes.specs.contracts.block.Block.free.Key.{name as #self}
-use Rattle.vk_heap.proofs.BlockValues.{block_val, block_is, lease_val, lease_is}
+use Rattle.vk_nodes.proofs.BlockValues.{block_val, block_is, lease_val, lease_is}
 use borrow.Table.OneValue.{part_out}
 use Rattle.vk_nodes.proofs.BlockRows.{Row}
-use Rattle.vk_heap.proofs.BlockWalks.{slot_at, then_runs, out_of_block}
+use Rattle.vk_nodes.proofs.BlockWalks.{slot_at, then_runs, out_of_block}
 use Rattle.vk_nodes.proofs.block.Block.free.Statement.{statement}
 use Rattle.vk_nodes.proofs.block.Block.free.Code as compiled
 

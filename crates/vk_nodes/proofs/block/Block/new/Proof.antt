@@ -46,8 +46,8 @@ use Rattle.vk_nodes.proofs.block.fill_room.Met.{met as filled}
 use denote.Laws.{Is}
 use Rattle.vk_nodes.proofs.slot.Slot.TheLaws as slot_laws
 use Rattle.vk_nodes.proofs.BlockRows.{Row, word, slot_typed, slot_makes}
-use Rattle.vk_heap.proofs.BlockValues.{block_val, block_own, block_made, lease_val, lease_own, lease_made}
-use Rattle.vk_heap.proofs.BlockWalks.{slot_at, then_runs, out_of_block}
+use Rattle.vk_nodes.proofs.BlockValues.{block_val, block_own, block_made, lease_val, lease_own, lease_made}
+use Rattle.vk_nodes.proofs.BlockWalks.{slot_at, then_runs, out_of_block}
 use Rattle.vk_nodes.proofs.block.Block.new.Statement.{statement}
 use Rattle.vk_nodes.proofs.block.Block.new.Code as compiled
 

@@ -1,6 +1,0 @@
-use denote.Param.Send.{IsSend}
-use Rattle.vk_heap.specs.contracts.block.Block.{the_row}
-use Rattle.vk_heap.proofs.BlockCrossing.{block_send}
-
-pub send : IsSend the_row
-send = block_send

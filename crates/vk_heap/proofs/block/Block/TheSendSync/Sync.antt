@@ -1,6 +1,0 @@
-use denote.Param.Send.{IsSync}
-use Rattle.vk_heap.specs.contracts.block.Block.{the_row}
-use Rattle.vk_heap.proofs.BlockCrossing.{block_sync}
-
-pub sync : IsSync the_row
-sync = block_sync
