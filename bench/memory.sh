@@ -14,6 +14,8 @@
 #   the bytes that were read is not in the second. Time is that of the processor.
 # - What a small copy with its barrier costs, one of 10,000: all of it, to read its text, which is
 #   found in the same way, and the rest, which is to judge the two commands and to run them.
+# - What an entry costs that makes or ends memory which isn't used: all of it, to read its text, and the
+#   rest, which is found in the same way.
 # - What moves cost: `memory_steps` makes turns on two regions, bytes of the host and a cache, and a
 #   plain C program the same with memcpy and memset, between buffers of as many bytes. Either looks at
 #   the clock before and after each turn; the shortest turns of all runs are compared. Copies, fills,
@@ -50,6 +52,28 @@ staging() {
 
 staging_answer() {
     answers "$((8 + $1))" 67305985
+}
+
+# N [ENTRY]: N buffers of 256 to 65,536 bytes that are made and destroyed, one at a time, in a pool of one
+# block of 16 MiB, which is given back whenever it is empty. The entry stands before all others.
+churn_in_a_pool() {
+    awk -v n="$1" -v first="${2:-}" 'BEGIN {
+        printf "[%s[\"pool\",1,\"tlsf\",1,16777216,1]", first
+        for (i = 0; i < n; i++) {
+            printf ",[\"buffer\",%d,%d,3,\"exclusive\",[\"pool\",1]]", i + 2, 256 + i * 2477 % 65281
+            printf ",[\"destroy\",%d]", i + 2
+        }
+        print "]"
+    }'
+}
+
+# N [ENTRY]: N memory objects of 4 MiB that are made and freed, one at a time.
+churn_of_memory() {
+    awk -v n="$1" -v first="${2:-}" 'BEGIN {
+        printf "[%s[\"semaphore\",1,0]", first
+        for (i = 0; i < n; i++) printf ",[\"memory\",%d,1,4194304],[\"free\",%d]", i + 2, i + 2
+        print "]"
+    }'
 }
 
 # TYPE N: N times 64 KiB that the host writes, flushes, invalidates and reads again, in memory of
@@ -282,6 +306,24 @@ copies_row() {
         "$(quotient "$alone" "$1")" "$(quotient $((all - alone)) "$1")" "${wrong_with:-as wanted}"
 }
 
+# NAME N: the row of what N objects cost that are made and end, by the trace of this name.
+churn_row() {
+    local run all= alone= wrong_with=
+    "$1" "$2" >"$folder/trace"
+    "$1" "$2" '["unmap",1],' >"$folder/refused"
+    for run in $(seq "$runs"); do
+        took all "$PROGRAM" "${ARGUMENTS[@]}" <"$folder/trace"
+        if [ "$ended" -ne 0 ] || [ -s "$folder/answer" ]; then
+            wrong_with="WRONG: status $ended, $(head -c 60 "$folder/answer")"
+        fi
+        took alone "$PROGRAM" "${ARGUMENTS[@]}" <"$folder/refused"
+        [ "$(cat "$folder/answer")" = "refused 0 LIVE_ID" ] || wrong_with="WRONG: $(head -c 60 "$folder/answer")"
+    done
+    [ -z "$wrong_with" ] || wrong=$((wrong + 1))
+    print_copies "$1, $2" "$(wc -c <"$folder/trace")" "$(quotient "$all" $((2 * $2)))" \
+        "$(quotient "$alone" $((2 * $2)))" "$(quotient $((all - alone)) $((2 * $2)))" "${wrong_with:-as wanted}"
+}
+
 # N BYTES: what is written where so many bytes are read back.
 staged_answer() {
     awk -v entry="$((8 + $1))" -v bytes="$2" 'BEGIN {
@@ -335,6 +377,12 @@ echo
 print_copies "small copies, best of $runs" bytes "all, us" "reading, us" "the rest, us" ""
 copies_row 10000
 copies_row 20000
+echo
+print_copies "made and ended, best of $runs" bytes "all, us" "reading, us" "the rest, us" "by entry"
+for n in 30000 60000; do
+    churn_row churn_in_a_pool "$n"
+    churn_row churn_of_memory "$n"
+done
 echo
 print_moves "shortest turns, $runs runs" bytes "ours, ns" "plain C, ns" ratio ""
 for bytes in 65536 1048576 16777216; do
