@@ -78,12 +78,15 @@ fn the_scheduler_is_asked_where_it_has_a_choice(rt: HostRuntime) -> Result<(), F
 
 /// Runs the piece at a place among those that may run next, and answers those, and those that may run
 /// then.
-fn stepped(device: &mut Device<'_>, place: usize) -> Result<(Vec<Piece>, Vec<Piece>), Fail>
+fn stepped(device: &mut Device<'_>, place: u64) -> Result<(Vec<Piece>, Vec<Piece>), Fail>
     requires { (t : List AnyEntry) × (steps : List Step) × (s : Stage) × Led t steps s device.old × IsSoundTrace t }
 {
     let offered = device.offered()?;
-    let piece = offered.as_slice().get(place).ok_or("fewer may run")?;
-    device.step(*piece).map_err(|_| "the device has failed")?;
+    if place >= device.offered_count() {
+        return Err(Fail::from("fewer may run"));
+    }
+    let piece = device.nth_offered(place);
+    device.step(piece).map_err(|_| "the device has failed")?;
     let left = device.offered()?;
     Ok((offered, left))
 }

@@ -1,5 +1,7 @@
 -- What a copied part leaves as it was.
-use Rattle.std.proofs.Common.{◌≡◌, ℕ, ◌+◌, ◌*◌, ◌<◌, ◌≤◌, false, true, Some, refl, sym, ap, subst, ◌∙◌, arith, inl, inr, ◌⊎◌}
+use Rattle.std.proofs.Common.{◌≡◌, ℕ, ◌+◌, ◌*◌, ◌<◌, ◌≤◌, List, false, true, Some, refl, sym, ap, subst, ◌∙◌, arith, inl, inr, ◌⊎◌}
+use Rattle.std.proofs.lemmas.Bool.{cases_lt}
+use Rattle.std.specs.Prelude.{Contains}
 use Rattle.vk_memory.specs.MemoryState.{MemoryState, object_at}
 use Rattle.vk_model.specs.declared.resource.Spot.{Spot}
 use Rattle.vk_model.specs.Memory.MoveTargets.{Moved}
@@ -8,7 +10,7 @@ use Rattle.vma_pools.specs.State.{shared_place, BlockOf, Has, IsSpotOf}
 use Rattle.vma_pools.proofs.NumberLemmas.{at-other}
 use Rattle.vma_defrag.specs.State.{part_count}
 use Rattle.vma_defrag.specs.Plans.{IsMove}
-use Rattle.vma_defrag.specs.Bytes.{byte_in, part_size, CopiesPartOf, KeepsObjects}
+use Rattle.vma_defrag.specs.Bytes.{byte_in, part_size, CopiesPartOf, IsTargetByte, KeepsObjects}
 use Rattle.vma_defrag.specs.Inner.Held.{Holds}
 use Rattle.vma_defrag.proofs.Copying.{copied_keeps, copied_out, copied_to, part_inside}
 use Rattle.vma_defrag.proofs.Spots.{has_object, holds_apart, shared_holds, to_size}
@@ -21,6 +23,21 @@ module _ (b : Backed) (m : MemoryState) (h : IsBacked b m) (pool : ℕ) (mv : Mo
 
   target : Holds b.pools mv.id true c.to
   target = copied_to b.pools h.pools m h.backs h.matched pool mv its number few new c
+
+  -- the bytes that are of no target of a move
+  pub part_rest : (moves : List Moved) → Contains moves mv → (n k : ℕ) → (IsTargetByte b.pools moves (λ x. true) n k → ⊥) → byte_in new n k ≡ byte_in m n k
+  part_rest moves there n k free = copied_out b.pools h.pools m h.backs h.matched pool mv its number few new c n k outside
+    where
+      outside : n ≡ c.to.memory → (k < c.to.offset + 4096 * number) ⊎ (c.to.offset + 4096 * number + part_size mv number ≤ k)
+      outside same =
+          let inside = part_inside mv.bytes number (part_size mv number) few refl in
+          elim (cases_lt k (c.to.offset + 4096 * number)) [
+            | inl low ↦ inl low
+            | inr ge ↦ elim (cases_lt k (c.to.offset + 4096 * number + part_size mv number)) [
+              | inl lt ↦ absurd (free (record { move = mv; there = there; passes = refl; from = c.from; to = c.to; between = c.between; object = sym same; low = omega (arith, ge); high = omega (arith, lt, inside) }))
+              | inr high ↦ inr high
+            ]
+          ]
 
   -- the bytes of resources
   pub part_bytes : (i p : ℕ) (spot : Spot) (k : ℕ) → LiesIn b i p spot → k < spot.size → byte_in new spot.memory (spot.offset + k) ≡ byte_in m spot.memory (spot.offset + k)

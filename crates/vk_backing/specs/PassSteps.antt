@@ -1,11 +1,11 @@
 -- What the calls on defragmentations change.
-use Rattle.std.specs.Prelude.{◌≡◌, ℕ, ◌+◌, ◌%◌, ◌<◌, List, [], Contains, AllPairs, get_or, Some, None, option_map, not, ◌==◌}
+use Rattle.std.specs.Prelude.{◌≡◌, ℕ, ◌+◌, ◌%◌, ◌<◌, List, [], Contains, AllPairs, get_or, Some, None, option_map, not, true, ◌==◌}
 use Rattle.std.specs.List.{filter, filter_map}
 use Rattle.vk_memory.specs.MemoryState.{MemoryState, object_at, type_of}
 use Rattle.vk_model.specs.declared.resource.Spot.{Spot}
 use Rattle.vma_defrag.specs.State.{DefragState}
 use Rattle.vma_defrag.specs.Passes.{HasBegun}
-use Rattle.vma_defrag.specs.Bytes.{byte_in, no_move, CopiesPart, KeepsObjects, MovesBetween}
+use Rattle.vma_defrag.specs.Bytes.{byte_in, no_move, CopiesPart, IsTargetByte, KeepsObjects, MovesBetween}
 use Rattle.vma_defrag.specs.Ends.{HasEnded}
 use Rattle.vk_backing.specs.Backed.{Backed, object_of, pool_of, allocation_of, LiesIn}
 use Rattle.vk_backing.specs.Spots.{KeepsAllInfos}
@@ -50,7 +50,7 @@ pub record MovesAt (p : Passing) (b : Backed) (index id : ℕ) (from to : Spot) 
   pub lies : LiesIn b id pool from
   pub between : MovesBetween b.pools (get_or (open_moves p) index no_move).id from to
 
--- A part of the open pass was copied: the defragmentations are of the same pools, no byte of a resource has changed where it lies, and no memory object that an id has of its own (VMA, "Defragmentation"; parts: profile).
+-- A part of the open pass was copied: the defragmentations are of the same pools, only bytes of the places that are reserved for what moves have changed, no byte of a resource where it lies, and no memory object that an id has of its own (VMA, "Defragmentation"; parts: profile).
 pub record Copies (old new : Passing) (b : Backed) (part : ℕ) (before after : MemoryState) : Type 0 where
   pub moves : open_moves new ≡ open_moves old
   pub left : parts_left new ≡ filter (λ k. not (k == part)) (parts_left old)
@@ -59,6 +59,7 @@ pub record Copies (old new : Passing) (b : Backed) (part : ℕ) (before after : 
   pub moving : new.moving ≡ old.moving
   pub copies : CopiesPart b.pools (open_moves old) part before after
   pub objects : KeepsObjects before after
+  pub rest : (n k : ℕ) → (IsTargetByte b.pools (open_moves old) (λ m. true) n k → ⊥) → byte_in after n k ≡ byte_in before n k
   pub bytes : (i p : ℕ) (s : Spot) (k : ℕ) → LiesIn b i p s → k < s.size → byte_in after s.memory (s.offset + k) ≡ byte_in before s.memory (s.offset + k)
   pub own : (i x : ℕ) → object_of b i ≡ Some x → object_at after x ≡ object_at before x
 

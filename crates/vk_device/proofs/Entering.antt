@@ -40,8 +40,9 @@ use Rattle.vk_resources.proofs.Fitting.{live_made}
 use Rattle.vk_device.specs.declared.device.Device.{Device}
 use Rattle.vk_device.specs.Inner.Clean.{IsClean}
 use Rattle.vk_device.specs.Inner.Fits.{FitsHost}
-use Rattle.vk_device.specs.Inner.Ready.{HostDone, HasTouched, Picks, GoesOn, IsDone, moved_by, IsOnHost}
-use Rattle.vk_device.specs.Passes.{HasPasses, parts_begun}
+use Rattle.vk_device.specs.Inner.Ready.{HostDone, HasTouched, Picks, GoesOn, IsDone, IsOnHost}
+use Rattle.vk_device.specs.Becomes.{Becomes}
+use Rattle.vk_device.specs.Passes.{HasPasses, moved_by, parts_begun}
 use Rattle.vk_device.proofs.KeptPasses.{at_queue, parts_then}
 use Rattle.vk_device.proofs.KeptPasses.{was_there as stays_there}
 use Rattle.vk_device.specs.Led.{Led, IsBefore, Applies, Reads}
@@ -206,6 +207,13 @@ host_alone x atoms m c q = go (in_atoms (touched_by x) atoms c) (m.host c)
     go : (t : Bool) (h : Option caches.Held) → (if t then turned_over (record { region = m.region c; held = held_by_host h }) else record { region = m.region c; held = held_by_host h }).held (suc q) ≡ None
     go true h = turned h
     go false h = refl
+
+-- what it makes of the bytes of resources, with its atoms
+pub goes_becomes : (e : ℕ) (x : Entry) (past : Past) (parts : List ℕ) (atoms : List ℕ) (old mid : Held) (p : Passing) (new : Held) (q : Passing) → HasTouched x atoms old mid → GoesOn e x past parts mid p new q → Becomes old new (memory_after_entry past atoms (moved_by p x q) x)
+goes_becomes e x past parts atoms old mid p new q touched goes m has c was is =
+    let at_mid = stays_there mid old (sym touched.resources) (sym touched.shapes) c was in
+    let h = goes.cells c (after_atoms x atoms (cells_of m) c) (host_alone x atoms m c) at_mid is (touched.cells c (cells_of m c) was (has c was)) in
+    record { held = h.held; region = h.region }
 
 pub host_done : (t : List Entry) (steps : List Step) (s : Stage) (x : Entry) (xs : List Entry) (atoms : List ℕ) (d : Device) (mid new : Held) (q : Passing) → NewMemoryHoldsAnything → EntriesGoOn → IsBefore t steps s x xs d → IsTrue (may_go s x)
     → IsTrue (are_atoms s.front.past x atoms) → IsClean (host s.count x ∷ s.front.past) → HasTouched x atoms d.resources mid → GoesOn s.count x s.front.past (parts_left s) mid d.passes new q → HostDone t steps s x xs atoms (record d { resources = new; passes = q })

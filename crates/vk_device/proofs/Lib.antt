@@ -15,6 +15,7 @@ mod PassStands
 mod PassBytes
 mod PassCaches
 mod KeptPasses
+mod Becoming
 mod Copying
 mod PlainEntries
 mod Changing

@@ -22,7 +22,10 @@ use Rattle.vk_laws.specs.PickedRuns.{OptionsAreThere}
 use Rattle.vk_device.specs.declared.device.Device.{Device}
 use Rattle.vk_backing.specs.Passing as backing
 use Rattle.vk_device.specs.Led.{Led, IsBefore, MayRun, HasRun, MayCopy, HasCopied}
-use Rattle.vk_device.specs.Inner.Ready.{Waited, MayAsk, Goes, Picks, option_count}
+use Rattle.vk_device.specs.Becomes.{Becomes, memory_after}
+use Rattle.vk_device.specs.Inner.Ready.{Waited, MayAsk, Goes, Picks, PicksBecome, RunBecomes, option_count}
+use Rattle.vk_device.proofs.Becoming.{becomes_same, cells_become, steps_become}
+use Rattle.vk_resources.specs.PassSteps.{KeepsCells}
 
 -- ---- lists
 
@@ -150,7 +153,7 @@ left_on d = left_in d.offers.ready + length (backing.parts_left d.passes)
 
 module _ (answer : List ℕ → ℕ → ℕ) (next : List ℕ → ℕ → List ℕ) where
   -- before a turn: what was picked so far has led here, and with what is picked from here on it is all that is picked
-  pub record Turn (t : List Entry) (steps : List Step) (s : Stage) (first : List ℕ) (x : Entry) (d : Device) (held : List ℕ) : Type 0 where
+  pub record Turn (t : List Entry) (steps : List Step) (s : Stage) (d0 : Device) (first : List ℕ) (x : Entry) (d : Device) (held : List ℕ) : Type 0 where
     pub so_far : List Step
     pub done : List Name
     pub copied : List ℕ
@@ -158,10 +161,11 @@ module _ (answer : List ℕ → ℕ → ℕ) (next : List ℕ → ℕ → List �
     pub led : Led t (steps ++ so_far) (record s { done = done; copied = copied }) d
     pub enough : left_on d < fuel
     pub whole : before_entry answer next s first x ≡ onward answer next so_far (picks answer next fuel (record s { done = done; copied = copied }) held x)
+    pub bytes : (moved : List ℕ) → Becomes d0.resources d.resources (memory_after s.front.past moved x so_far)
 
   -- whatever run has led to the device before
   abbrev pub Turns : Device → List ℕ → Entry → Device → List ℕ → Type 0
-  Turns d0 first x d held = (t : List Entry) (steps : List Step) (s : Stage) (xs : List Entry) → IsBefore t steps s x xs d0 → Turn t steps s first x d held
+  Turns d0 first x d held = (t : List Entry) (steps : List Step) (s : Stage) (xs : List Entry) → IsBefore t steps s x xs d0 → Turn t steps s d0 first x d held
 
   pub first_turn : (d : Device) (held : List ℕ) (x : Entry) → Turns d held x d held
   first_turn d held x t steps s xs is = record {
@@ -172,9 +176,10 @@ module _ (answer : List ℕ → ℕ → ℕ) (next : List ℕ → ℕ → List �
     led = subst (λ (l : List Step). Led t l s d) (sym (append-nil steps)) is.led;
     enough = (let few = pieces_left s.front.past s.done d.offers.ready is.led.offers.started in let parts = ap (λ (l : List ℕ). length l) is.led.passes.left in let most = few_parts s in omega (arith, few, parts, most));
     whole = refl;
+    bytes = λ moved. becomes_same d.resources;
   }
 
-  module _ (t : List Entry) (steps : List Step) (s : Stage) (xs : List Entry) (d0 : Device) (first : List ℕ) (x : Entry) (is : IsBefore t steps s x xs d0) (d : Device) (held : List ℕ) (turn : Turn t steps s first x d held) where
+  module _ (t : List Entry) (steps : List Step) (s : Stage) (xs : List Entry) (d0 : Device) (first : List ℕ) (x : Entry) (is : IsBefore t steps s x xs d0) (d : Device) (held : List ℕ) (turn : Turn t steps s d0 first x d held) where
     abbrev now : Stage
     now = record s { done = turn.done; copied = turn.copied }
 
@@ -241,8 +246,11 @@ module _ (answer : List ℕ → ℕ → ℕ) (next : List ℕ → ℕ → List �
       size = ap (λ (n : ℕ). option_count n goes) steps_are ∙ ap (λ (b : Bool). option_count (steps_at answer next now x) b) may ∙ sym (turn_length answer next now x)
 
       -- the entry is picked
-      pub entry_picked : DirectRunsAreRuns → OptionsAreThere → pieces + parts ≤ picked → Picks answer next t steps s first x d held'
-      entry_picked runs there past_all = subst Leads (sym all) (subst (λ (l : List Step). Led t (steps ++ l) now d) (sym (append-nil turn.so_far)) turn.led, held_is, sym may ∙ chosen.0)
+      pub entry_picked : DirectRunsAreRuns → OptionsAreThere → pieces + parts ≤ picked → Picks answer next t steps s first x d held' × PicksBecome answer next s first x d0 d
+      entry_picked runs there past_all = (
+        subst Leads (sym all) (subst (λ (l : List Step). Led t (steps ++ l) now d) (sym (append-nil turn.so_far)) turn.led, held_is, sym may ∙ chosen.0),
+        λ moved. subst (λ (p : Picked). Becomes d0.resources d.resources (memory_after s.front.past moved x p.steps)) (sym all) (subst (λ (l : List Step). Becomes d0.resources d.resources (memory_after s.front.past moved x l)) (sym (append-nil turn.so_far)) (turn.bytes moved)),
+      )
         where
           Leads : Picked → Type 0
           Leads p = Led t (steps ++ p.steps) p.stage d × (held' ≡ p.held) × IsTrue (may_go p.stage x)
@@ -269,11 +277,12 @@ module _ (answer : List ℕ → ℕ → ℕ) (next : List ℕ → ℕ → List �
 
       -- a step is picked, and taken
       module _ (step : Step) (done : List Name) (copied : List ℕ) (stage_is : stepped step now ≡ record s { done = done; copied = copied }) (d' : Device) (led' : Led t ((steps ++ turn.so_far) ++ step ∷ []) (record s { done = done; copied = copied }) d') (fewer : left_on d' < left_on d)
-          (at : slice_get (options answer next now x) (pick_of answer next held (option_count (pieces + parts) goes)) ≡ Some (Take step)) where
-        taken : Turn t steps s first x d' held'
+          (at : slice_get (options answer next now x) (pick_of answer next held (option_count (pieces + parts) goes)) ≡ Some (Take step)) (places : d.resources.resources ≡ d0.resources.resources) (images : d.resources.shapes ≡ d0.resources.shapes)
+          (one : (moved : List ℕ) → Becomes d.resources d'.resources (memory_after s.front.past moved x (step ∷ []))) where
+        taken : Turn t steps s d0 first x d' held'
         taken = go turn.fuel turn.enough turn.whole
           where
-            go : (fuel : ℕ) → left_on d < fuel → before_entry answer next s first x ≡ onward answer next turn.so_far (picks answer next fuel now held x) → Turn t steps s first x d' held'
+            go : (fuel : ℕ) → left_on d < fuel → before_entry answer next s first x ≡ onward answer next turn.so_far (picks answer next fuel now held x) → Turn t steps s d0 first x d' held'
             go zero lt whole = absurd (omega (arith, lt))
             go (suc fuel) lt whole = record {
               so_far = turn.so_far ++ step ∷ [];
@@ -287,16 +296,19 @@ module _ (answer : List ℕ → ℕ → ℕ) (next : List ℕ → ℕ → List �
                   ∙ ap (λ (q : Stage). onward answer next turn.so_far (onward answer next (step ∷ []) (picks answer next fuel q (held_after answer next held (option_count (pieces + parts) goes)) x))) stage_is
                   ∙ ap (λ (h : List ℕ). onward answer next turn.so_far (onward answer next (step ∷ []) (picks answer next fuel (record s { done = done; copied = copied }) h x))) (sym held_is)
                   ∙ ap (λ (l : List Step). record (picks answer next fuel (record s { done = done; copied = copied }) held' x) { steps = l }) (sym (append_assoc turn.so_far (step ∷ []) (picks answer next fuel (record s { done = done; copied = copied }) held' x).steps));
+              bytes = λ moved. steps_become s.front.past moved x d0.resources d.resources d'.resources turn.so_far (step ∷ []) places images (turn.bytes moved) (one moved);
             }
 
       -- a piece runs
-      pub piece_taken : (piece : Piece) → slice_get (offered s.front.past turn.done) picked ≡ Some (name_of s.front.past piece) → Contains (ready d.offers.ready) piece → (d' : Device) → HasRun d d' piece → Turn t steps s first x d' held'
-      piece_taken piece named among' d' ran =
+      pub piece_taken : (piece : Piece) → slice_get (offered s.front.past turn.done) picked ≡ Some (name_of s.front.past piece) → Contains (ready d.offers.ready) piece → (d' : Device) → HasRun d d' piece → d.resources.resources ≡ d0.resources.resources → d.resources.shapes ≡ d0.resources.shapes → RunBecomes d d' piece → Turn t steps s d0 first x d' held'
+      piece_taken piece named among' d' ran places images becomes =
           taken (RunPiece (name_of s.front.past piece)) (name_of s.front.past piece ∷ turn.done) turn.copied refl d' (led_on piece d' ran) (fewer_piece piece among' d' ran)
           (turn_piece answer next now x (pick_of answer next held (option_count (pieces + parts) goes)) (name_of s.front.past piece) (ap (λ (k : ℕ). slice_get (offered s.front.past turn.done) k) (sym pick_is) ∙ named))
+          places images (λ moved. becomes t (steps ++ turn.so_far) now turn.led is.sound)
 
       -- a part is copied
-      pub part_taken : (j part : ℕ) → picked ≡ pieces + j → slice_get (backing.parts_left d.passes) j ≡ Some part → Contains (backing.parts_left d.passes) part → (d' : Device) → HasCopied d d' part → d'.offers ≡ d.offers → Turn t steps s first x d' held'
-      part_taken j part is_at here among' d' copies same =
+      pub part_taken : (j part : ℕ) → picked ≡ pieces + j → slice_get (backing.parts_left d.passes) j ≡ Some part → Contains (backing.parts_left d.passes) part → (d' : Device) → HasCopied d d' part → d'.offers ≡ d.offers → d.resources.resources ≡ d0.resources.resources → d.resources.shapes ≡ d0.resources.shapes → KeepsCells d.resources d'.resources → Turn t steps s d0 first x d' held'
+      part_taken j part is_at here among' d' copies same places images cells =
           taken (CopyPart part) turn.done (part ∷ turn.copied) refl d' (copies t (steps ++ turn.so_far) now turn.led) (fewer_part part among' d' copies same)
           (turn_part answer next now x (pick_of answer next held (option_count (pieces + parts) goes)) j part (sym pick_is ∙ is_at ∙ ap (λ (n : ℕ). n + j) counted) (ap (λ (l : List ℕ). slice_get l j) turn.led.passes.left ∙ here))
+          places images (λ moved. cells_become d.resources d'.resources cells)

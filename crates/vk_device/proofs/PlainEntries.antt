@@ -19,8 +19,8 @@ use Rattle.vk_resources.specs.Passes.{KeepsSpared}
 use Rattle.vk_resources.proofs.AllottedPasses.{IsNoPass, all_allotted}
 use Rattle.vk_device.specs.Inner.Clean.{IsClean}
 use Rattle.vk_device.specs.Inner.Fits.{FitsHost, is_of_passes}
-use Rattle.vk_device.specs.Inner.Ready.{GoesOn, IsDone, moved_by, parts_with}
-use Rattle.vk_device.specs.Passes.{AllotsAll, HasPasses, parts_begun}
+use Rattle.vk_device.specs.Inner.Ready.{GoesOn, IsDone, parts_with}
+use Rattle.vk_device.specs.Passes.{AllotsAll, HasPasses, parts_begun, moved_by}
 use Rattle.vk_device.proofs.PassCaches.{entry_clean}
 use Rattle.vk_device.proofs.PassPasts.{plain_passes}
 use Rattle.vk_device.proofs.PassRules.{spares_passes}

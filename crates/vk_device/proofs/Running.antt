@@ -38,9 +38,10 @@ use Rattle.vk_offers.specs.IsOffers.{IsOffers, IsPieceOf, name_of, number_of, co
 use Rattle.vk_offers.proofs.Offering.{same_offers}
 use Rattle.vk_offers.proofs.Commands.{command_at}
 use Rattle.vk_transfer.specs.Ran.{given, stored, HaveRun}
-use Rattle.vk_resources.specs.Held.{byte_at, IsThere}
+use Rattle.vk_resources.specs.Held.{Held, byte_at, IsThere}
 use Rattle.vk_resources.specs.Matches.{Stands}
 use Rattle.vk_device.specs.declared.device.Device.{Device}
+use Rattle.vk_device.specs.Becomes.{Becomes}
 use Rattle.vk_device.specs.Led.{Led, AreWorks}
 use Rattle.vk_device.specs.Inner.Fits.{FitsAction, AllFit}
 use Rattle.vk_backing.specs.Passing.{CopiesAgree}
@@ -146,6 +147,13 @@ module _ (t : List Entry) (steps : List Step) (s : Stage) (d : Device) (led : Le
   abbrev ms : List ByteWrite
   ms = named_piece s.front.past (name_of s.front.past piece)
 
+  -- what it makes of the bytes of resources
+  pub piece_becomes : (new : Held) → HaveRun ms (byte_at d.resources) (byte_at new) → new.resources ≡ d.resources.resources → new.cache ≡ d.resources.cache → Becomes d.resources new (memory_after_piece ms)
+  piece_becomes new ran resources cache m has c was is = record {
+    held = (has c was).held ∙ sym (host_same d.resources new resources cache c);
+    region = sym (ran c ∙ stored_same (byte_at d.resources) m.region (write_to c ms) c (λ none. sym (has c was).region) (λ w e is from. sym (has e (sources c w e is from)).region));
+  }
+
   -- the device when it has run
   pub has_run : PiecesGoOn → (new : Device) → HaveRun ms (byte_at d.resources) (byte_at new.resources) → Stands s.front.past new.resources → new.resources.resources ≡ d.resources.resources → new.resources.shapes ≡ d.resources.shapes → new.resources.cache ≡ d.resources.cache → new.resources.backed ≡ d.resources.backed → CopiesAgree d.passes new.resources.backed new.resources.memory → new.passes ≡ d.passes → new.works ≡ d.works
       → new.waiting ≡ d.waiting → new.count ≡ d.count → IsOffers new.offers s.front.past (name_of s.front.past piece ∷ s.done)
@@ -153,10 +161,7 @@ module _ (t : List Entry) (steps : List Step) (s : Stage) (d : Device) (led : Le
   has_run go_on new ran matches resources shapes cache backed agree passes works waiting count offers = record {
     memory = memory_after_piece ms led.memory;
     run = go_on t steps s led.memory (name_of s.front.past piece) led.run (is_offered s.front.past s.done d.offers led.offers piece at);
-    holds = λ c there. record {
-      held = (led.holds c (was_there d.resources new.resources resources shapes c there)).held ∙ sym (host_same d.resources new.resources resources cache c);
-      region = sym (ran c ∙ stored_same (byte_at d.resources) led.memory.region (write_to c ms) c (λ none. sym (led.holds c (was_there d.resources new.resources resources shapes c there)).region) (λ w e is from. sym (led.holds e (sources c w e is from)).region));
-    };
+    holds = λ c there. piece_becomes new.resources ran resources cache led.memory led.holds c (was_there d.resources new.resources resources shapes c there) there;
     matches = matches;
     works = rw works led.works;
     waits = subst (λ (w : Waiting). IsWaiting w new.count s.front) (sym waiting) (subst (λ (k : ℕ). IsWaiting d.waiting k s.front) (sym count) led.waits);

@@ -7,10 +7,10 @@ use Rattle.vk_model.specs.declared.entry.Entry.{Entry}
 use Rattle.vk_model.specs.Laws.{NoFaultIsSound}
 use Rattle.vk_model.specs.Run.Runs.{Step, Stage, Apply, applied, parts_left, touched_by, atom_count}
 use Rattle.vk_model.specs.Run.Picks.{Picked, before_entry, atom_picks}
-use Rattle.vk_model.specs.Trace.Order.{host}
+use Rattle.vk_model.specs.Trace.Order.{Front, host}
 use Rattle.vk_model.specs.Trace.Point.{Past}
 use Rattle.vk_laws.specs.DefinedRuns.{DefinedRunsFollow}
-use Rattle.vk_laws.specs.DirectRuns.{DirectRunsAreRuns, NewMemoryHoldsAnything, EntriesGoOn, DirectRunsReadTheTrace}
+use Rattle.vk_laws.specs.DirectRuns.{DirectRunsAreRuns, NewMemoryHoldsAnything, EntriesGoOn, DirectRunsReadTheTrace, memory_after_entry}
 use Rattle.vk_laws.specs.PickedRuns.{PicksLeadOn}
 use Rattle.vk_resources.specs.declared.applied.Applied.{Applied}
 use Rattle.vk_resources.specs.declared.applied.Applied.TheVariants as applied
@@ -19,11 +19,13 @@ use Rattle.vk_resources.specs.Matches.{Stands}
 use Rattle.vk_backing.specs.Passing.{Passing}
 use Rattle.vk_device.specs.declared.device.Device.{Device}
 use Rattle.vk_device.specs.Inner.Clean.{IsClean}
-use Rattle.vk_device.specs.Inner.Ready.{HostDone, Touches, Picks, AdvanceReady, MayChange, HasDone, IsDone}
-use Rattle.vk_device.specs.Passes.{HasPasses, parts_begun}
+use Rattle.vk_device.specs.Becomes.{Becomes, memory_after}
+use Rattle.vk_device.specs.Inner.Ready.{HostDone, Touches, Picks, Between, PicksBecome, AdvanceReady, MayChange, HasDone, IsDone}
+use Rattle.vk_device.specs.Passes.{HasPasses, moved_by, parts_begun}
+use Rattle.vk_device.proofs.Becoming.{moved_same, steps_become}
 use Rattle.vk_device.proofs.KeptPasses.{touched_passes}
-use Rattle.vk_device.specs.Led.{Led, IsBefore, Applies, Reads, IsNext}
-use Rattle.vk_device.proofs.Entering.{clean_next, host_done, goes_of, reads_of, before, follows_before, reads_before, picked_atoms, applies}
+use Rattle.vk_device.specs.Led.{Led, IsBefore, Applies, ChangesBytes, Reads, IsNext}
+use Rattle.vk_device.proofs.Entering.{clean_next, host_done, goes_of, reads_of, goes_becomes, before, follows_before, reads_before, picked_atoms, applies}
 
 -- where there was no room nothing was changed, and no atom was picked
 no_change : (a : Applied) (e : ℕ) (x : Entry) (past : Past) (parts : List ℕ) (old : Held) (p : Passing) (new : Held) (q : Passing) → a ≡ applied.NoRoom → IsDone a e x past parts old p new q → (new ≡ old) × (q ≡ p) × (touched_by x ≡ None)
@@ -122,6 +124,32 @@ module _ (laws : Laws) (answer : List ℕ → ℕ → ℕ) (next : List ℕ → 
             was_done = host_done t (steps ++ (before_entry answer next s held x).steps) (before_entry answer next s held x).stage x xs (picked_atoms answer next t steps s held x xs).0 mid r new.resources new.passes laws.anything laws.entries_go now (picked t steps s xs h).2
                 (atoms_below answer next (atom_count (before_entry answer next s held x).stage.front.past x) 0 (atom_count (before_entry answer next s held x).stage.front.past x) (before_entry answer next s held x).held (omega arith)) clean touches.touched
                 (goes_of a _ x _ _ r mid.passes new.resources new.passes other did)
+
+            -- what that makes of the bytes of resources
+            entry_becomes : (final : Device) → final.resources ≡ new.resources → final.passes ≡ new.passes → Between old mid → PicksBecome answer next s held x old mid → Becomes old.resources final.resources (memory_after s.front.past (moved_by old.passes x final.passes) x ((before_entry answer next s held x).steps ++ Apply (picked_atoms answer next t steps s held x xs).0 (parts_begun final.passes x) ∷ []))
+            entry_becomes final resources passes between becomes = steps_become s.front.past moved x old.resources mid.resources final.resources (before_entry answer next s held x).steps (Apply atoms (parts_begun final.passes x) ∷ []) between.resources between.shapes (becomes moved)
+                (subst (λ (r : Held). Becomes mid.resources r (memory_after_entry s.front.past atoms moved x)) (sym resources)
+                (subst (λ (l : List ℕ). Becomes mid.resources new.resources (memory_after_entry s.front.past atoms l x)) (moved_same mid.passes old.passes new.passes final.passes x between.moving (ap (λ (q : Passing). q.moving) (sym passes)))
+                (subst (λ (f : Front). Becomes mid.resources new.resources (memory_after_entry f.past atoms (moved_by mid.passes x new.passes) x)) front
+                (goes_becomes _ x _ _ atoms mid.resources r mid.passes new.resources new.passes touches.touched (goes_of a _ x _ _ r mid.passes new.resources new.passes other did)))))
+              where
+                atoms : List ℕ
+                atoms = (picked_atoms answer next t steps s held x xs).0
+
+                moved : List ℕ
+                moved = moved_by old.passes x final.passes
+
+                front : (before_entry answer next s held x).stage.front ≡ s.front
+                front = (laws.lead_on answer next t steps s held x xs (laws.runs t steps s _ h.led.run) h.sound.faultless h.next).front
+
+            pub changes_then : (final : Device) → final.resources ≡ new.resources → final.passes ≡ new.passes → Between old mid → PicksBecome answer next s held x old mid → ChangesBytes answer next a s held x xs old final
+            changes_then final resources passes between becomes = go a other (entry_becomes final resources passes between becomes)
+              where
+                go : (b : Applied) → (b ≡ applied.NoRoom → ⊥) → Becomes old.resources final.resources (memory_after s.front.past (moved_by old.passes x final.passes) x ((before_entry answer next s held x).steps ++ Apply (picked_atoms answer next t steps s held x xs).0 (parts_begun final.passes x) ∷ []))
+                    → ChangesBytes answer next b s held x xs old final
+                go applied.Done some all = all
+                go (applied.Bytes bytes) some all = all
+                go applied.NoRoom some all = absurd (some refl)
 
             pub read_then : Reads a s x
             read_then = reads_before answer next t steps s held x xs old a laws.runs laws.lead_on h (reads_of t (steps ++ (before_entry answer next s held x).steps) (before_entry answer next s held x).stage x xs (picked_atoms answer next t steps s held x xs).0 mid r new.resources laws.reads_trace clean now touches.touched a new.passes did)

@@ -25,14 +25,10 @@ use Rattle.vk_laws.specs.PickedRuns.{PicksLeadOn}
 use Rattle.vk_model.proofs.Memory.Parts.{one_more as applied_more}
 use Rattle.vk_resources.specs.declared.applied.Applied.{Applied}
 use Rattle.vk_resources.specs.declared.applied.Applied.TheVariants as applied
-use Rattle.vk_backing.specs.Allotted as backing
 use Rattle.vk_backing.specs.Allotted.{Allotted}
 use Rattle.vk_backing.specs.Passing.{Passing}
 use Rattle.vk_backing.specs.PassAllots.{FulfilsAll}
-use Rattle.vk_backing.specs.Backed.{Backed}
 use Rattle.vk_resources.specs.Allocating.{IsAllocated, NoRoomIsExact, allotted}
-use Rattle.vk_memory.specs.MemoryState.{MemoryState}
-use Rattle.vk_device.specs.Empty.{nothing_backed, none_begun}
 use Rattle.vk_device.specs.Passes.{AllotsAll, parts_begun}
 use Rattle.vk_device.proofs.Coming.{applied_count}
 use Rattle.vk_device.specs.declared.device.Device.{Device}
@@ -86,9 +82,9 @@ module _ (answer : List ℕ → ℕ → ℕ) (next : List ℕ → ℕ → List �
     pub rest : (later : List ℕ) (stop : Option ℕ) → NotBefore i stop
         → trace_picks answer next (parts_in (counts ++ later)) stop (start t) held0 t ≡ after_steps steps (trace_picks answer next (parts_in (counts ++ later)) stop stage held stage.left)
 
-  pub replays_start : (d : Device) → Led t [] (start t) d → d.resources.memory ≡ record { sizes = config; objects = [] } → d.resources.backed ≡ nothing_backed → d.passes ≡ none_begun → d.failed ≡ false → Replays 0 [] d held0
+  pub replays_start : (d : Device) → Led t [] (start t) d → FulfilsAll (allotted d.resources) d.passes (nothing_allocated config) → d.failed ≡ false → Replays 0 [] d held0
   unfolding meaning
-  replays_start d led empty bare passes works = record {
+  replays_start d led allocated works = record {
     steps = [];
     stage = start t;
     led = led;
@@ -99,20 +95,10 @@ module _ (answer : List ℕ → ℕ → ℕ) (next : List ℕ → ℕ → List �
     counts = [];
     long = refl;
     allocated = nothing_allocated config;
-    has = subst (λ (p : Passing). FulfilsAll (allotted d.resources) p (nothing_allocated config)) (sym passes)
-        (subst (λ (a : Allotted). FulfilsAll a none_begun (nothing_allocated config)) (sym (ap (λ (m : MemoryState). backing.allotted d.resources.backed m) empty ∙ ap (λ (b : Backed). backing.allotted b (record { sizes = config; objects = [] })) bare))
-        (record {
-          resources = record { sizes = refl; used = unused; count = refl; objects = λ id. refl; pools = λ id. refl };
-          moves = λ id n q named there. absurd cc;
-          defrags = λ id. refl;
-        }));
+    has = allocated;
     reached = λ later. refl;
     rest = λ later stop not_before. refl;
   }
-    where
-      unused : (first : Bool) → (heaps_of (nothing_allocated config)).used (if first then 0 else 1) ≡ 0
-      unused true = refl
-      unused false = refl
 
 -- the entries with one more
 front_more : (t : List Entry) (i : ℕ) (x : Entry) → x ≡ get_or t i x → i < length t → take (i + 1) t ≡ take i t ++ x ∷ []

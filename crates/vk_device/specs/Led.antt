@@ -1,5 +1,6 @@
 -- How an allowed run has led to a device, and what the device answers to what comes next.
-use Rattle.std.specs.Prelude.{◌≡◌, ℕ, suc, List, [], ◌∷◌, ◌++◌, map, Contains, Some, None, true}
+use Rattle.std.specs.Prelude.{◌≡◌, ℕ, suc, List, [], ◌∷◌, ◌++◌, map, length, slice_index, Contains, Some, None, true}
+use Rattle.vk_memory.specs.MemoryState.{IsLive, region_of, type_of}
 use Rattle.vk_model.specs.declared.command.Cmd.{Cmd}
 use Rattle.vk_model.specs.declared.entry.Entry.{Entry}
 use Rattle.vk_model.specs.Trace.Point.{Past}
@@ -23,13 +24,16 @@ use Rattle.vk_transfer.specs.Ran.{HaveRun}
 use Rattle.vk_resources.specs.declared.applied.Applied.{Applied}
 use Rattle.vk_resources.specs.declared.applied.Applied.TheVariants as applied
 use Rattle.vk_resources.specs.Held.{byte_at, IsThere, HasCell}
-use Rattle.vk_resources.specs.Rest.{KeepsRest, is_written}
+use Rattle.vk_resources.specs.Rest.{KeepsRest, LiesNone, is_written}
 use Rattle.vk_resources.specs.Matches.{Stands}
 use Rattle.vk_resources.specs.PassSteps.{KeepsCells}
+use Rattle.vma_defrag.specs.Bytes.{IsTargetByte}
 use Rattle.vk_backing.specs.Passing as backing
+use Rattle.vk_backing.specs.Passing.{open_moves}
 use Rattle.vk_backing.specs.PassSteps.{Copies}
 use Rattle.vk_device.specs.declared.device.Device.{Device}
-use Rattle.vk_device.specs.Passes.{HasPasses, parts_begun}
+use Rattle.vk_device.specs.Becomes.{Becomes, memory_after}
+use Rattle.vk_device.specs.Passes.{HasPasses, moved_by, parts_begun}
 
 -- A device has made ready the clears and copies of a past, in their order.
 abbrev pub AreWorks : List Cmd → Past → Type 0
@@ -125,9 +129,20 @@ module _ (answer : List ℕ → ℕ → ℕ) (next : List ℕ → ℕ → List �
   Applies applied.NoRoom t steps s held x xs new after = let p = before_entry answer next s held x in Led t (steps ++ p.steps) p.stage new × (after ≡ p.held)
   Applies _ t steps s held x xs new after = let p = entry_picks answer next (parts_begun new.passes x) s held x xs in Led t (steps ++ p.steps) p.stage new × (after ≡ p.held)
 
--- Where no pass is open before and after, only bytes of resources have changed of the memory objects that are live before and after: padding, and what is free in pools, are as they were (Vulkan, "Device Memory" and "Resource Memory Association"; VMA, "Custom memory pools").
-abbrev pub KeepsPadding : Device → Device → Type 0
-KeepsPadding old new = old.passes.opened ≡ None → new.passes.opened ≡ None → KeepsRest old.resources new.resources (λ c. true)
+  -- What happened to the bytes of resources that are there before and after is what those steps do, and no more: nothing has run that wasn't picked (Vulkan, "Execution and Memory Dependencies" and "Host Access to Device Memory Objects"; VMA, "Defragmentation").
+  abbrev pub ChangesBytes : Applied → Stage → List ℕ → Entry → List Entry → Device → Device → Type 0
+  ChangesBytes applied.NoRoom s held x xs old new = Becomes old.resources new.resources (memory_after s.front.past [] x (before_entry answer next s held x).steps)
+  ChangesBytes _ s held x xs old new = Becomes old.resources new.resources (memory_after s.front.past (moved_by old.passes x new.passes) x (entry_picks answer next (parts_begun new.passes x) s held x xs).steps)
+
+-- Byte k of the memory object of a number lies in a place that is reserved for what moves in the open pass (VMA, "Defragmentation").
+abbrev pub IsReserved : Device → ℕ → ℕ → Type 0
+IsReserved d number k = IsTargetByte d.resources.backed.pools (open_moves d.passes) (λ m. true) number k
+
+-- Each memory object that is live before and after has its type and its size, and only bytes of resources, and of places that were reserved for what moves, have changed of it: padding, and what is free in pools, are as they were (Vulkan, "Device Memory" and "Resource Memory Association"; VMA, "Custom memory pools" and "Defragmentation").
+pub record KeepsPadding (old new : Device) : Type 0 where
+  pub types : (number : ℕ) → IsLive old.resources.memory number → IsLive new.resources.memory number → type_of new.resources.memory number ≡ type_of old.resources.memory number
+  pub sizes : (number : ℕ) → IsLive old.resources.memory number → IsLive new.resources.memory number → length (region_of new.resources.memory number) ≡ length (region_of old.resources.memory number)
+  pub bytes : (number k : ℕ) → IsLive old.resources.memory number → IsLive new.resources.memory number → LiesNone old.resources (λ c. true) number k → (IsReserved old number k → ⊥) → slice_index (region_of new.resources.memory number) k ≡ slice_index (region_of old.resources.memory number) k
 
 -- What an entry reads (Vulkan, "Host Access to Device Memory Objects").
 abbrev pub Reads : Applied → Stage → Entry → Type 0

@@ -1,3 +1,4 @@
+pub mod Becomes
 pub mod Empty
 pub mod Led
 pub mod Passes

@@ -1,5 +1,5 @@
 -- The defragmentations of a device, as a trace has begun and ended them, and what is allocated with them.
-use Rattle.std.specs.Prelude.{◌≡◌, ℕ, List, length, Option, Some, None, IsTrue}
+use Rattle.std.specs.Prelude.{◌≡◌, ℕ, List, [], length, Option, Some, None, IsTrue}
 use Rattle.vk_model.specs.declared.entry.Entry.{Entry}
 use Rattle.vk_model.specs.declared.entry.Entry.TheVariants as entry
 use Rattle.vk_model.specs.Trace.Point.{Past}
@@ -33,6 +33,12 @@ pub record HasPasses (parts : List ℕ) (past : Past) (p : Passing) (r : Held) :
   pub left : parts ≡ parts_left p
   pub agree : CopiesAgree p r.backed r.memory
   pub clean : AreClean p.moving r
+
+-- The resources that an entry moves: those of the pass that it begins or ends (VMA, "Defragmentation").
+abbrev pub moved_by : Passing → Entry → Passing → List ℕ
+moved_by old (entry.Pass d) new = new.moving
+moved_by old (entry.EndPass d kept lost) new = old.moving
+moved_by old x new = []
 
 -- How many parts are to be copied when an entry has been applied that has led to these passes: those of the pass that it begins (VMA, "Defragmentation"; parts: profile).
 abbrev pub parts_begun : Passing → Entry → ℕ

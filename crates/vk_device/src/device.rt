@@ -10,7 +10,7 @@ ghost use Rattle.vk_device.specs.Passes.{AllotsAll, parts_begun};
 ghost use Rattle.vk_offers.specs.IsOffers.{name_of};
 ghost use Rattle.vk_sync.specs.Ready.{ready};
 ghost use Rattle.vk_model.specs.Trace.PointViews.{point_of};
-ghost use Rattle.std.specs.Prelude.{◌<◌};
+ghost use Rattle.std.specs.Prelude.{◌<◌, Contains, Some, slice_get};
 ghost use Rattle.vk_model.specs.Run.Picks.{pick_of, held_after};
 ghost use Rattle.vk_device.specs.Inner.Ready.{option_count};
 
@@ -53,9 +53,11 @@ pub struct Device<'a> {
 
 impl<'a> Device<'a> {
     ghost use Rattle.vk_model.specs.Run.Runs.{start};
-    ghost use Rattle.vk_device.specs.Led.{Led, IsBefore, IsNext, MayRun, HasRun, HasWritten, HasChanged, KeepsMemory, KeepsPadding, Applies, Reads};
+    ghost use Rattle.vk_device.specs.Led.{Led, IsBefore, IsNext, MayRun, HasRun, HasWritten, HasChanged, KeepsMemory, KeepsPadding, Applies, ChangesBytes, Reads};
+    ghost use Rattle.vk_backing.specs.PassAllots.{FulfilsAll};
+    ghost use Rattle.vk_model.specs.Memory.Allocations.{nothing_allocated};
     ghost use Rattle.vk_device.specs.Empty.{nothing_backed, none_begun};
-    ghost use Rattle.vk_device.specs.Inner.Ready.{PrepareReady, Prepares, Waited, MayAsk, Goes, Picks, HostDone, AdvanceReady, Touches, Rests, RestsIfClosed};
+    ghost use Rattle.vk_device.specs.Inner.Ready.{PrepareReady, Prepares, Waited, MayAsk, Goes, Picks, HostDone, AdvanceReady, Touches, Rests, Between, RunBecomes, PicksBecome};
     ghost use Rattle.vk_resources.specs.Allocating.{allotted};
     ghost use Rattle.vk_device.specs.declared.applied.ApplyError.TheVariants.{NoMemory, Failed};
 
@@ -65,6 +67,8 @@ impl<'a> Device<'a> {
         ensures empty { result.resources.memory ≡ record { sizes = config; objects = [] } }
         ensures bare { result.resources.backed ≡ nothing_backed }
         ensures passes { result.passes ≡ none_begun }
+        // What is allocated from here on follows by `allots` of `apply`, and stays over all else.
+        ensures allocated { FulfilsAll (allotted result.resources) result.passes (nothing_allocated config) }
         ensures works { result.failed ≡ false }
     {
         direct_runs_go_on();
@@ -86,6 +90,7 @@ impl<'a> Device<'a> {
         ensures ran { HasRun self.old self.new piece }
         ensures written { HasWritten self.old self.new piece }
         ensures changed { HasChanged self.old self.new piece }
+        ensures becomes { RunBecomes self.old self.new piece }
         ensures rest { KeepsMemory self.old self.new piece }
         ensures placed { self.new.resources.resources ≡ self.old.resources.resources }
         ensures shapes { self.new.resources.shapes ≡ self.old.resources.shapes }
@@ -170,7 +175,9 @@ impl<'a> Device<'a> {
             → Picks S.answer S.next t steps s (S.held sched.old) entry.now self.new (S.held sched.new)) }
         ensures allotted { allotted self.new.resources ≡ allotted self.old.resources }
         ensures stays { StaysAllotted (allotted self.old.resources) self.old.passes (allotted self.new.resources) self.new.passes }
-        ensures rests { RestsIfClosed self.old self.new }
+        ensures becomes { OnOk result ((t : List Entry) (steps : List Step) (s : Stage) (xs : List Entry) → IsBefore t steps s entry.now xs self.old
+            → PicksBecome S.answer S.next s (S.held sched.old) entry.now self.old self.new) }
+        ensures between { OnOk result (Between self.old self.new) }
         ensures failed { self.new.failed ≡ self.old.failed }
     {
         picks_are_runs();
@@ -258,6 +265,8 @@ impl<'a> Device<'a> {
         ensures reads { IfOk result (λ a. (t : List Entry) (steps : List Step) (s : Stage) (xs : List Entry) → IsBefore t steps s entry.now xs self.old → Reads a s entry.now) }
         ensures rooms { IfOk result (λ a. NoRoomIsExact a self.old.resources entry.now) }
         ensures allots { IfOk result (λ a. AllotsAll a entry.now self.old.resources self.old.passes self.new.resources self.new.passes) }
+        ensures bytes { IfOk result (λ a. (t : List Entry) (steps : List Step) (s : Stage) (xs : List Entry) → IsBefore t steps s entry.now xs self.old
+            → ChangesBytes S.answer S.next a s (S.held sched.old) entry.now xs self.old self.new) }
         ensures rest { OnOk result (KeepsPadding self.old self.new) }
         ensures failed { self.new.failed ≡ self.old.failed }
         ensures error { IfErr result (λ f. f ≡ NoMemory) }
@@ -299,7 +308,10 @@ impl<'a> Device<'a> {
         ensures reads { IfOk result (λ a. (t : List Entry) (steps : List Step) (s : Stage) (xs : List Entry) → IsBefore t steps s entry.now xs self.old → Reads a s entry.now) }
         ensures rooms { IfOk result (λ a. NoRoomIsExact a self.old.resources entry.now) }
         ensures allots { IfOk result (λ a. AllotsAll a entry.now self.old.resources self.old.passes self.new.resources self.new.passes) }
-        // Where no pass is open before and after, only bytes of resources change.
+        // Bytes change by the steps that were picked and by the entry, and nothing runs early.
+        ensures bytes { IfOk result (λ a. (t : List Entry) (steps : List Step) (s : Stage) (xs : List Entry) → IsBefore t steps s entry.now xs self.old
+            → ChangesBytes S.answer S.next a s (S.held sched.old) entry.now xs self.old self.new) }
+        // Of memory only bytes of resources change, and of places that are reserved in the open pass.
         ensures rest { OnOk result (KeepsPadding self.old self.new) }
         ensures works { IfOk result (λ a. (self.old.failed ≡ false) × (self.new.failed ≡ false)) }
         ensures error { IfErr result (λ f. f ≡ (if self.old.failed then Failed else NoMemory)) }
@@ -320,7 +332,25 @@ impl<'a> Device<'a> {
         applied
     }
 
-    /// The pieces that may run next, in reference order. The only error is want of memory.
+    /// How many pieces may run next. It takes no memory.
+    pub fn offered_count(&self) -> u64
+        ensures named { (t : List Entry) (steps : List Step) (s : Stage) → Led t steps s self.now → result ≡ length (offered s.front.past s.done) }
+        ensures ready { result ≡ length (ready self.now.offers.ready) }
+    {
+        self.offers.count()
+    }
+
+    /// A piece that may run next, by its place in reference order. It takes no memory.
+    pub fn nth_offered(&self, place: u64) -> Piece
+        requires { place < length (ready self.now.offers.ready) }
+        ensures named { (t : List Entry) (steps : List Step) (s : Stage) → Led t steps s self.now → slice_get (offered s.front.past s.done) place ≡ Some (name_of s.front.past result) }
+        // It is one of those that `step` takes.
+        ensures ready { Contains (ready self.now.offers.ready) result }
+    {
+        self.offers.nth(place)
+    }
+
+    /// The pieces that may run next, in reference order, as a list. The only error is want of memory.
     pub fn offered(&self) -> Result<Vec<Piece>, AllocError>
         ensures named { IfOk result (λ pieces. (t : List Entry) (steps : List Step) (s : Stage) → Led t steps s self.now → map (name_of s.front.past) pieces.items ≡ offered s.front.past s.done) }
         // They are those that `step` takes.
@@ -340,6 +370,7 @@ impl<'a> Device<'a> {
         // Of all memory only the bytes that it writes change, also where no resource lies.
         ensures rest { OnOk result (KeepsMemory self.old self.new piece) }
         ensures allotted { allotted self.new.resources ≡ allotted self.old.resources }
+        ensures stays { StaysAllotted (allotted self.old.resources) self.old.passes (allotted self.new.resources) self.new.passes }
         ensures error { IfErr result (λ f. (f ≡ Failed) × IsTrue self.old.failed) }
         ensures failed { self.new.failed ≡ self.old.failed }
         ensures err { OnErr result (self.new ≡ self.old) }

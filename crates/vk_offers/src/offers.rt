@@ -74,7 +74,8 @@ impl<'a> Offers<'a> {
 
     /// How many pieces may run next.
     pub fn count(&self) -> u64
-        ensures { (past : Past) (done : List Name) → IsOffers self.now past done → result ≡ length (offered past done) }
+        ensures ready { result ≡ length (ready self.now.ready) }
+        ensures named { (past : Past) (done : List Name) → IsOffers self.now past done → result ≡ length (offered past done) }
     {
         self.ready.count()
     }

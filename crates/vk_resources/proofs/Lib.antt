@@ -29,7 +29,7 @@ mod Remapping
 mod Sparing
 mod WritingBack
 mod CopyingParts
-mod KeptCopies
+pub mod KeptCopies
 pub mod RestThrough
 pub mod AllottedPasses
 mod PuttingAnew

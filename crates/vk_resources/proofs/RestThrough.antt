@@ -1,5 +1,6 @@
 -- What stays of memory through two changes of it.
-use Rattle.std.proofs.Common.{◌≡◌, Bool, true, refl, sym, ◌∙◌}
+use Rattle.std.proofs.Common.{◌≡◌, ℕ, length, slice_index, Bool, true, refl, ap, sym, subst, ◌∙◌}
+use Rattle.vk_memory.specs.MemoryState.{MemoryState, IsLive, region_of, type_of}
 use Rattle.vk_model.specs.World.Bytes.{Byte}
 use Rattle.vk_resources.specs.Allocating.{allotted}
 use Rattle.vk_resources.specs.Held.{Held}
@@ -23,3 +24,14 @@ rest_then old mid new test same resources shapes first rest = record {
       let between = live_alike old mid same number was in
       rest.bytes number k between is (λ c passes w. none c passes (still_placed mid old (sym resources) (sym shapes) number k c w)) ∙ first.bytes number k was between none;
 }
+
+-- the same where nothing of memory and of where resources lie has changed before
+pub rest_from : (old mid new : Held) (test : Byte → Bool) → mid.memory ≡ old.memory → mid.resources ≡ old.resources → mid.shapes ≡ old.shapes → KeepsRest mid new test → KeepsRest old new test
+rest_from old mid new test same resources shapes rest = record {
+  types = λ number was is. rest.types number (live number was) is ∙ ap (λ (m : MemoryState). type_of m number) same;
+  sizes = λ number was is. rest.sizes number (live number was) is ∙ ap (λ (m : MemoryState). length (region_of m number)) same;
+  bytes = λ number k was is none. rest.bytes number k (live number was) is (λ c passes w. none c passes (still_placed mid old (sym resources) (sym shapes) number k c w)) ∙ ap (λ (m : MemoryState). slice_index (region_of m number) k) same;
+}
+  where
+    live : (number : ℕ) → IsLive old.memory number → IsLive mid.memory number
+    live number was = subst (λ (m : MemoryState). IsLive m number) (sym same) was

@@ -27,6 +27,8 @@ use Rattle.vk_resources.proofs.Lying.{there_stays}
 use Rattle.vk_resources.proofs.Matching.{flat_parts, keeps_stands}
 use Rattle.vk_resources.proofs.Placing.{inside_of}
 use Rattle.vk_resources.proofs.Remapping.{rebacked_matches}
+use Rattle.vk_resources.proofs.RestThrough.{rest_same, rest_then}
+use Rattle.vk_resources.specs.Rest.{KeepsRest}
 
 -- ---- a byte that is written back
 
@@ -114,12 +116,13 @@ pub record WrittenSoFar (ids : List ℕ) (k : ℕ) (old now : Held) : Type 0 whe
   pub same : allotted now ≡ allotted old
   pub stands : (past : Past) → Stands past old → Stands past now
   pub written : WritesBack (take k ids) old now
+  pub rest : KeepsRest old now (λ c. true)
 
 pub written_first : (ids : List ℕ) (s : Held) → WrittenSoFar ids 0 s s
-written_first ids s = record { resources = refl; shapes = refl; same = refl; stands = λ past m. m; written = λ c cell there has. has }
+written_first ids s = record { resources = refl; shapes = refl; same = refl; stands = λ past m. m; written = λ c cell there has. has; rest = rest_same s (λ c. true) }
 
-pub written_more : (ids : List ℕ) (k : ℕ) (old mid new : Held) → k < length ids → WrittenSoFar ids k old mid → KeepsPlaces mid new → WritesBack (get_or ids k 0 ∷ []) mid new → WrittenSoFar ids (k + 1) old new
-written_more ids k old mid new lt so keeps more = record { resources = keeps.resources ∙ so.resources; shapes = keeps.shapes ∙ so.shapes; same = keeps.same ∙ so.same; stands = λ past m. keeps_stands past mid new keeps (so.stands past m); written = written }
+pub written_more : (ids : List ℕ) (k : ℕ) (old mid new : Held) → k < length ids → WrittenSoFar ids k old mid → KeepsPlaces mid new → WritesBack (get_or ids k 0 ∷ []) mid new → KeepsRest mid new (λ c. true) → WrittenSoFar ids (k + 1) old new
+written_more ids k old mid new lt so keeps more rest = record { resources = keeps.resources ∙ so.resources; shapes = keeps.shapes ∙ so.shapes; same = keeps.same ∙ so.same; stands = λ past m. keeps_stands past mid new keeps (so.stands past m); written = written; rest = rest_then old mid new (λ c. true) so.same so.resources so.shapes so.rest rest }
   where
     id : ℕ
     id = get_or ids k 0

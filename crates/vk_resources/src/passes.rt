@@ -1,4 +1,4 @@
-ghost use Rattle.std.specs.Prelude.{◌≡◌, ◌∷◌, [], ℕ, Contains, IfOk, IfSome, IsSome, IsSomeAnd, None, OnOk, Some};
+ghost use Rattle.std.specs.Prelude.{◌≡◌, ◌∷◌, [], ℕ, Contains, IfOk, IfSome, IsSome, IsSomeAnd, None, OnOk, Some, true};
 ghost use Rattle.vk_model.specs.Trace.Point.{Past};
 ghost use Rattle.vk_model.specs.Trace.Order.{host};
 ghost use Rattle.vk_model.specs.declared.entry.Entry.TheVariants as entry;
@@ -23,11 +23,13 @@ impl Resources {
     ghost use Rattle.vk_resources.specs.Held.{IsConsistent};
     ghost use Rattle.vk_resources.specs.Inner.PassEnds.{ForgetsEach, Settles};
     ghost use Rattle.vk_resources.specs.Inner.Steps.{KeepsPlaces, Reserves};
+    ghost use Rattle.vk_resources.specs.Rest.{KeepsRest};
 
     /// Writes the bytes of a buffer back that the host has written and that haven't reached memory.
     fn write_back(&mut self, id: u32)
         ensures keeps { KeepsPlaces self.old self.new }
         ensures written { WritesBack (id ∷ []) self.old self.new }
+        ensures rest { KeepsRest self.old self.new (λ c. true) }
     {
         let _memories = &self.memories;
         if self.buffer(id).is_some() {
@@ -41,6 +43,7 @@ impl Resources {
         ensures shapes { self.new.shapes ≡ self.old.shapes }
         ensures allotted { allotted self.new ≡ allotted self.old }
         ensures written { WritesBack passes.now.moving self.old self.new }
+        ensures rest { KeepsRest self.old self.new (λ c. true) }
         ensures stands { (past : Past) → Stands past self.old → Stands past self.new }
     {
         for index in 0..passes.moves() {
@@ -113,6 +116,8 @@ impl Resources {
         ensures shapes { OnOk result (self.new.shapes ≡ self.old.shapes) }
         ensures written { OnOk result (WritesBack passes.new.moving self.old self.new) }
         ensures clean { OnOk result (AreClean passes.new.moving self.new) }
+        // Of all memory only bytes of resources change, also where no resource lies.
+        ensures rest { OnOk result (KeepsRest self.old self.new (λ c. true)) }
         ensures stands { OnOk result ((past : Past) → Stands past self.old → Stands past self.new) }
     {
         self.reserve_places(passes, defrag)?;

@@ -12,11 +12,12 @@ use Rattle.vk_model.specs.Run.Runs.{Name, Step, Stage, RunPiece, Apply, may_go, 
 use Rattle.vk_model.specs.Run.Runs as runs
 use Rattle.vk_model.specs.Run.Picks.{before_entry, atom_picks}
 use Rattle.vk_model.specs.Run.Caches.{Cell, queue_agent}
-use Rattle.vk_model.specs.Run.CachedRuns.{after_host, in_atoms, turned_over}
+use Rattle.vk_model.specs.Run.CachedRuns.{after_host, in_atoms, named_piece, turned_over}
 use Rattle.vk_model.specs.Sync.Node.{Node, nodes}
-use Rattle.vk_laws.specs.DirectRuns.{DirectRun, HostMemory, cells_of}
+use Rattle.vk_laws.specs.DirectRuns.{DirectRun, HostMemory, cells_of, memory_after_piece}
 use Rattle.vk_queues.specs.IsWaiting.{IsWaiting}
-use Rattle.vk_offers.specs.IsOffers.{IsOffers, CountsBefore, host_node, is_free_next, is_run}
+use Rattle.vk_sync.specs.declared.ready.Piece.{Piece}
+use Rattle.vk_offers.specs.IsOffers.{IsOffers, CountsBefore, host_node, is_free_next, is_run, name_of}
 use Rattle.vk_resources.specs.Held.{Held, IsThere, HasCell}
 use Rattle.vk_resources.specs.Matches.{Stands}
 use Rattle.vk_resources.specs.Rest.{KeepsRest}
@@ -25,11 +26,12 @@ use Rattle.vk_resources.specs.declared.applied.Applied.{Applied}
 use Rattle.vk_resources.specs.declared.applied.Applied.TheVariants as applied
 use Rattle.vk_resources.specs.Done.{CommandReady, HoldsNoneNew, ReadsBytes, ReadsNothing}
 use Rattle.vk_resources.specs.PassSteps.{AreClean}
-use Rattle.vk_backing.specs.Passing.{Passing, ArePassing, CopiesAgree}
+use Rattle.vk_backing.specs.Passing.{Passing, ArePassing, CopiesAgree, open_moves}
 use Rattle.vk_device.specs.declared.device.Device.{Device}
 use Rattle.vk_device.specs.Inner.Clean.{IsClean}
-use Rattle.vk_device.specs.Passes.{HasPasses, parts_begun}
-use Rattle.vk_device.specs.Led.{Led, AreWorks, IsBefore, IsSoundTrace}
+use Rattle.vk_device.specs.Becomes.{Becomes, memory_after}
+use Rattle.vk_device.specs.Passes.{HasPasses, moved_by, parts_begun}
+use Rattle.vk_device.specs.Led.{Led, AreWorks, IsBefore, IsSoundTrace, KeepsPadding}
 
 -- The commands before an entry that waits for them: how many of each queue; none where it waits for none. When it may be applied goes by them, whichever pieces have run then.
 abbrev pub Waited : Device → Entry → Option (List ℕ) → Type 0
@@ -62,17 +64,24 @@ pub record Rests (old new : Held) : Type 0 where
   pub resources : new.resources ≡ old.resources
   pub shapes : new.shapes ≡ old.shapes
 
--- Where no pass is open what has run leaves passes as they are, and all bytes that are of no resource.
-abbrev pub RestsIfClosed : Device → Device → Type 0
-RestsIfClosed old new = old.passes.opened ≡ None → (new.passes ≡ old.passes) × Rests old.resources new.resources
+-- What runs between two entries leaves resources where they lie, the moves of the open pass, and all bytes that are of no resource and of no place that is reserved.
+pub record Between (old new : Device) : Type 0 where
+  pub padding : KeepsPadding old new
+  pub resources : new.resources.resources ≡ old.resources.resources
+  pub shapes : new.resources.shapes ≡ old.resources.shapes
+  pub moving : new.passes.moving ≡ old.passes.moving
+  pub moves : open_moves new.passes ≡ open_moves old.passes
+
+-- The bytes of resources have become what the piece makes of them.
+abbrev pub RunBecomes : Device → Device → Piece → Type 0
+RunBecomes old new piece =
+    (t : List Entry) (steps : List Step) (s : Stage) → Led t steps s old → IsSoundTrace t → Becomes old.resources new.resources (memory_after_piece (named_piece s.front.past (name_of s.front.past piece)))
+
+-- They have become what the steps make of them that were picked before an entry.
+abbrev pub PicksBecome : (List ℕ → ℕ → ℕ) → (List ℕ → ℕ → List ℕ) → Stage → List ℕ → Entry → Device → Device → Type 0
+PicksBecome answer next s held x old new = (moved : List ℕ) → Becomes old.resources new.resources (memory_after s.front.past moved x (before_entry answer next s held x).steps)
 
 -- ---- an entry is done by itself
-
--- The resources that an entry moves: those of the pass that it begins or ends (VMA, "Defragmentation").
-abbrev pub moved_by : Passing → Entry → Passing → List ℕ
-moved_by old (entry.Pass d) new = new.moving
-moved_by old (entry.EndPass d kept lost) new = old.moving
-moved_by old x new = []
 
 -- The parts that are left when an entry has been applied: all those of a pass that it begins, and none where it ends one (VMA, "Defragmentation").
 abbrev pub parts_with : Passing → Entry → List ℕ → List ℕ

@@ -26,7 +26,7 @@ loop-index-preserved g c =
     ]
 
 pub loop-index-init : goal.loop-index-init
-loop-index-init g c = rw c.new-reads.ensures.items (replays_start g.S.Scheduler.answer g.S.Scheduler.next c.args.config c.args.entries.now (g.S.Scheduler.held c.args.sched.now) c.new-device.result (c.new-device.ensures.led c.args.entries.now) c.new-device.ensures.empty c.new-device.ensures.bare c.new-device.ensures.passes c.new-device.ensures.works)
+loop-index-init g c = rw c.new-reads.ensures.items (replays_start g.S.Scheduler.answer g.S.Scheduler.next c.args.config c.args.entries.now (g.S.Scheduler.held c.args.sched.now) c.new-device.result (c.new-device.ensures.led c.args.entries.now) c.new-device.ensures.allocated c.new-device.ensures.works)
 
 pub returns-clause-stop : goal.returns-clause-stop
 returns-clause-stop g c =

@@ -1,14 +1,15 @@
-use Rattle.std.proofs.Common.{◌≡◌, ◌∙◌, not, ◌==◌, get_or, Option, Some, ap, refl, sym, subst}
+use Rattle.std.proofs.Common.{◌≡◌, ◌∙◌, ℕ, not, true, ◌==◌, get_or, Option, Some, ap, refl, sym, subst}
+use Rattle.std.proofs.lemmas.List.{get_or_default}
 use Rattle.std.specs.Prelude.{Contains}
 use Rattle.std.specs.List.{filter}
 use Rattle.vma_defrag.specs.State.{DefragState, left_in, moves_in}
 use Rattle.vma_defrag.specs.Plans.{ArePlanned}
 use Rattle.vma_pools.specs.State.{Backs}
-use Rattle.vma_defrag.specs.Bytes.{no_move, AreCopied, CopiesPart}
+use Rattle.vma_defrag.specs.Bytes.{byte_in, no_move, AreCopied, CopiesPart, IsTargetByte}
 use Rattle.vk_backing.specs.Backed.{Backed, IsBacked}
 use Rattle.vk_backing.specs.PassSteps.{Copies}
 use Rattle.vk_backing.specs.Passing.{Passing, ArePassing, open_defrag, left_by, moves_by}
-use Rattle.vk_backing.proofs.CopyKeeps.{part_bytes, part_objects, part_own}
+use Rattle.vk_backing.proofs.CopyKeeps.{part_bytes, part_objects, part_own, part_rest}
 use Rattle.vk_backing.specs.Allotted.{allotted}
 use Rattle.vk_backing.specs.PassAllots.{StaysAllotted}
 use Rattle.vk_backing.proofs.CopyAllots.{copy_allotted}
@@ -63,6 +64,8 @@ returns-clause-copies c =
       moving = refl;
       copies = subst (λ (o : Option DefragState). CopiesPart b.pools (moves_by o) c.args.part c.args.memories.now c.copy_part.new.memories) (sym is) now;
       objects = part_objects b c.args.memories.now c.requires.backed d.pool mv its now.number now.its.within c.copy_part.new.memories now.copies;
+      rest = subst (λ (o : Option DefragState). (n k : ℕ) → (IsTargetByte b.pools (moves_by o) (λ x. true) n k → ⊥) → byte_in c.copy_part.new.memories n k ≡ byte_in c.args.memories.now n k) (sym is)
+          (part_rest b c.args.memories.now c.requires.backed d.pool mv its now.number now.its.within c.copy_part.new.memories now.copies (moves_in d.current) (now.index, now.its.there, get_or_default (moves_in d.current) now.index mv no_move now.its.there));
       bytes = part_bytes b c.args.memories.now c.requires.backed d.pool mv its now.number now.its.within c.copy_part.new.memories now.copies;
       own = part_own b c.args.memories.now c.requires.backed d.pool mv its now.number now.its.within c.copy_part.new.memories now.copies;
     })

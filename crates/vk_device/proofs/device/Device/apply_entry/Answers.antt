@@ -1,4 +1,4 @@
-use Rattle.std.proofs.Common.{◌++◌, ◌∙◌, sym, ap, subst}
+use Rattle.std.proofs.Common.{[], ◌++◌, ◌∙◌, sym, ap, subst}
 use Rattle.vk_resources.specs.declared.applied.Applied.{Applied}
 use Rattle.vk_resources.specs.declared.applied.Applied.TheVariants as applied
 use Rattle.vk_resources.specs.Allocating.{NoRoomIsExact, allotted}
@@ -7,12 +7,13 @@ use Rattle.vk_resources.specs.Held.{Held}
 use Rattle.vk_backing.specs.PassAllots.{StaysAllotted}
 use Rattle.vk_backing.specs.Passing.{Passing}
 use Rattle.vk_device.specs.declared.device.Device.{Device}
+use Rattle.vk_device.specs.Becomes.{Becomes, memory_after}
 use Rattle.vk_device.specs.Passes.{AllotsAll}
 use Rattle.vk_device.specs.Inner.Ready.{AdvanceReady, HasDone, HostDone, MayChange}
 use Rattle.vk_device.specs.Led.{Led}
-use Rattle.vk_device.proofs.WholeEntries.{Laws, next_then, may_change, advance_ready, applied_then, read_then, refused}
+use Rattle.vk_device.proofs.WholeEntries.{Laws, next_then, may_change, advance_ready, applied_then, changes_then, read_then, refused}
 use Rattle.vk_device.proofs.Allocating.{rooms_before, allots_through, stays_same}
-use Rattle.vk_device.proofs.Resting.{padding_same, padding_then}
+use Rattle.vk_device.proofs.Resting.{entry_padding, padding_same}
 use Rattle.vk_device.proofs.device.Device.apply_entry.Goals as goal
 
 pub touch-requires : goal.touch-requires
@@ -59,7 +60,14 @@ returns-in-NoRoom-clause-allots g c =
 
 pub returns-in-NoRoom-clause-rest : goal.returns-in-NoRoom-clause-rest
 returns-in-NoRoom-clause-rest g c =
-    padding_then c.args.self.now c.run_picked.new.self c.touch.new.self c.change.new.self c.run_picked.ensures.rests c.run_picked.ensures.allotted c.touch.ensures.same c.touch.ensures.allotted c.in_ok-touch.ensures.rests c.in_ok-applied.ensures.rest
+    entry_padding c.args.self.now c.run_picked.new.self c.touch.new.self c.change.new.self c.in_ok-run_picked.ensures.between c.run_picked.ensures.allotted c.touch.ensures.same c.touch.ensures.allotted c.in_ok-touch.ensures.rests c.in_ok-applied.ensures.rest
+
+pub returns-in-NoRoom-clause-bytes : goal.returns-in-NoRoom-clause-bytes
+returns-in-NoRoom-clause-bytes g c t steps s xs h =
+    let laws : Laws = record { sound = c.no_fault_is_sound.ensures; runs = c.direct_runs_are_runs.ensures; following = c.defined_runs_follow.ensures; lead_on = c.picks_are_runs.ensures.lead_on; anything = c.new_memory_holds_anything.ensures; entries_go = c.direct_runs_go_on.ensures.entries; reads_trace = c.direct_runs_are_fresh.ensures.reads } in
+    let done : HasDone c.in_ok-applied.applied c.args.entry.now (record c.run_picked.new.self { resources = c.touch.new.self.resources }) c.change.new.self = subst (λ (d : Device). HasDone c.in_ok-applied.applied c.args.entry.now d c.change.new.self) c.touch.ensures.same c.in_ok-applied.ensures.done in
+    let same = refused laws g.S.Scheduler.answer g.S.Scheduler.next (g.S.Scheduler.held c.args.sched.now) (g.S.Scheduler.held c.run_picked.new.sched) (g.S.Scheduler.held c.touch.new.sched) c.args.entry.now c.args.self.now c.run_picked.new.self c.touch.new.self.resources c.in_ok-run_picked.ensures.picked c.in_ok-touch.ensures.touched t steps s xs h c.change.new.self c.in_ok-applied.applied done c.in-NoRoom.is in
+    subst (λ (r : Held). Becomes c.args.self.now.resources r (memory_after s.front.past [] c.args.entry.now (before_entry g.S.Scheduler.answer g.S.Scheduler.next s (g.S.Scheduler.held c.args.sched.now) c.args.entry.now).steps)) (sym same.0) (c.in_ok-run_picked.ensures.becomes t steps s xs h [])
 
 pub returns-in_ok-advance-in_default : goal.returns-in_ok-advance-in_default
 returns-in_ok-advance-in_default g c =
@@ -78,8 +86,10 @@ returns-in_ok-advance-in_default g c =
       allots = subst (λ (q : Passing). AllotsAll c.in_ok-applied.applied c.args.entry.now c.args.self.now.resources c.args.self.now.passes c.advance.new.self.resources q) (sym last.passes)
           (subst (λ (r : Held). AllotsAll c.in_ok-applied.applied c.args.entry.now c.args.self.now.resources c.args.self.now.passes r c.change.new.self.passes) (sym last.resources)
           (allots_through c.in_ok-applied.applied c.args.entry.now c.args.self.now.resources c.args.self.now.passes mid.resources mid.passes c.change.new.self.resources c.change.new.self.passes stays c.in_ok-applied.ensures.allots));
+      bytes = λ t steps s xs h. changes_then laws g.S.Scheduler.answer g.S.Scheduler.next (g.S.Scheduler.held c.args.sched.now) (g.S.Scheduler.held c.run_picked.new.sched) (g.S.Scheduler.held c.touch.new.sched) c.args.entry.now c.args.self.now c.run_picked.new.self c.touch.new.self.resources c.in_ok-run_picked.ensures.picked c.in_ok-touch.ensures.touched t steps s xs h c.change.new.self c.in_ok-applied.applied done c.in_default.not-NoRoom c.advance.new.self
+          last.resources last.passes c.in_ok-run_picked.ensures.between (c.in_ok-run_picked.ensures.becomes t steps s xs h);
       rest = padding_same c.args.self.now c.change.new.self c.advance.new.self last.resources last.passes
-          (padding_then c.args.self.now c.run_picked.new.self mid c.change.new.self c.run_picked.ensures.rests c.run_picked.ensures.allotted c.touch.ensures.same c.touch.ensures.allotted c.in_ok-touch.ensures.rests c.in_ok-applied.ensures.rest);
+          (entry_padding c.args.self.now c.run_picked.new.self c.touch.new.self c.change.new.self c.in_ok-run_picked.ensures.between c.run_picked.ensures.allotted c.touch.ensures.same c.touch.ensures.allotted c.in_ok-touch.ensures.rests c.in_ok-applied.ensures.rest);
       failed = c.advance.ensures.failed ∙ ap (λ (d : Device). d.failed) whole ∙ c.run_picked.ensures.failed;
       error = tt;
     }

@@ -2,6 +2,7 @@ use Rattle.std.proofs.Common.{true, refl}
 use Rattle.vk_resources.proofs.RestThrough.{rest_same}
 use Rattle.vk_device.proofs.Changing.{defrag_goes}
 use Rattle.vk_device.proofs.PassRules.{defrag_fits}
+use Rattle.vk_device.proofs.Resting.{rest_padding}
 use Rattle.vk_device.proofs.device.Device.begin_defrag.Goals as goal
 
 pub begin_defrag-requires-clause-absent : goal.begin_defrag-requires-clause-absent
@@ -26,4 +27,4 @@ pub returns-clause-allots : goal.returns-clause-allots
 returns-clause-allots c = λ d is. (_, refl, c.in_ok-begin_defrag.ensures.allots d is, refl)
 
 pub returns-clause-rest : goal.returns-clause-rest
-returns-clause-rest c = λ closed none. rest_same c.args.self.now.resources (λ b. true)
+returns-clause-rest c = rest_padding _ _ (rest_same c.args.self.now.resources (λ b. true))

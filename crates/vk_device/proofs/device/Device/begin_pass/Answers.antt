@@ -1,6 +1,7 @@
 use Rattle.vk_device.proofs.Changing.{pass_goes, parts_begin}
 use Rattle.vk_device.proofs.PassParts.{parts_counted}
 use Rattle.vk_device.proofs.PassRules.{pass_fits}
+use Rattle.vk_device.proofs.Resting.{rest_padding}
 use Rattle.vk_device.proofs.device.Device.begin_pass.Goals as goal
 
 pub begin_pass-requires-clause-there : goal.begin_pass-requires-clause-there
@@ -31,4 +32,4 @@ returns-clause-allots c = λ d is.
     (e.0, e.1, e.2, parts_counted c.begin_pass.new.passes c.begin_pass.new.self e.0 c.args.defrag e.2 w.passing w.opens.opened (parts_begin c.args.self.now.passes c.begin_pass.new.passes c.args.self.now.resources.backed c.begin_pass.new.self.backed c.args.defrag w.opens))
 
 pub returns-clause-rest : goal.returns-clause-rest
-returns-clause-rest c = λ closed none. let was = c.in_ok-begin_pass.ensures.opens.opened in absurd cc
+returns-clause-rest c = rest_padding _ _ c.in_ok-begin_pass.ensures.rest

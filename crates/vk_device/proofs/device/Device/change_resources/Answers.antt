@@ -2,6 +2,7 @@ use Rattle.vk_resources.proofs.RestThrough.{rest_any}
 use Rattle.vk_device.proofs.Entering.{fits_next}
 use Rattle.vk_device.proofs.PassBytes.{entry_bytes}
 use Rattle.vk_device.proofs.PassRules.{spares_passes}
+use Rattle.vk_device.proofs.Resting.{rest_padding}
 use Rattle.vk_device.proofs.PlainEntries.{plain_fits, plain_done, plain_allots}
 use Rattle.vk_device.proofs.device.Device.change_resources.Goals as goal
 
@@ -38,6 +39,6 @@ returns-clause-allots c =
     c.in_ok-applied.applied (w.done m.number m.past m.stands fits) (w.allots m.past m.stands fits)
 
 pub returns-clause-rest : goal.returns-clause-rest
-returns-clause-rest c = λ closed none.
+returns-clause-rest c =
     let m = c.requires.may in
-    rest_any c.args.self.now.resources c.apply.new.self _ (c.in_ok-applied.ensures.rest m.past m.stands (plain_fits m.past c.args.entry.now c.requires.plain (fits_next m.number c.args.entry.now m.past m.clean)))
+    rest_padding _ _ (rest_any c.args.self.now.resources c.apply.new.self _ (c.in_ok-applied.ensures.rest m.past m.stands (plain_fits m.past c.args.entry.now c.requires.plain (fits_next m.number c.args.entry.now m.past m.clean))))

@@ -2,6 +2,7 @@ use Rattle.std.proofs.Common.{true, refl}
 use Rattle.vk_resources.proofs.RestThrough.{rest_same}
 use Rattle.vk_device.proofs.Changing.{undefrag_goes}
 use Rattle.vk_device.proofs.PassRules.{end_defrag_fits}
+use Rattle.vk_device.proofs.Resting.{rest_padding}
 use Rattle.vk_device.proofs.device.Device.end_defrag.Goals as goal
 
 pub end_defrag-requires-clause-there : goal.end_defrag-requires-clause-there
@@ -26,4 +27,4 @@ pub returns-clause-allots : goal.returns-clause-allots
 returns-clause-allots c = λ d is. (_, refl, c.end_defrag.ensures.allots d is, refl)
 
 pub returns-clause-rest : goal.returns-clause-rest
-returns-clause-rest c = λ closed none. rest_same c.args.self.now.resources (λ b. true)
+returns-clause-rest c = rest_padding _ _ (rest_same c.args.self.now.resources (λ b. true))

@@ -5,6 +5,7 @@ use Rattle.vk_backing.specs.PassAllots.{EndAllots}
 use Rattle.vk_resources.specs.Allocating.{allotted}
 use Rattle.vk_device.proofs.Changing.{end_goes}
 use Rattle.vk_device.proofs.PassRules.{end_pass_fits}
+use Rattle.vk_device.proofs.Resting.{end_padding}
 use Rattle.vk_device.proofs.device.Device.end_pass.Goals as goal
 
 -- what is so of the one that is there
@@ -59,7 +60,12 @@ returns-clause-allots c = λ d is.
     (_, refl, if_there (λ (k : ℕ). EndAllots (allotted s) p (allotted t) q k c.args.ignored.now c.args.destroyed.now) p.opened c.args.defrag ready.0 w.allots d is, refl)
 
 pub returns-clause-rest : goal.returns-clause-rest
-returns-clause-rest c = λ closed none.
+returns-clause-rest c =
+    let w = rw (c.as_slice.ensures, c.as_slice-2.ensures) at c.in_ok-end_pass.ensures in
     let r = c.requires in
-    let was = (end_pass_fits r.number r.past c.args.self.now.resources c.args.self.now.passes c.args.defrag c.args.ignored.now c.args.destroyed.now r.clean r.stands r.passes.matches).0 in
-    absurd cc
+    let p = c.args.self.now.passes in
+    let q = c.end_pass.new.passes in
+    let s = c.args.self.now.resources in
+    let t = c.end_pass.new.self in
+    let ready = end_pass_fits r.number r.past s p c.args.defrag c.args.ignored.now c.args.destroyed.now r.clean r.stands r.passes.matches in
+    end_padding c.args.self.now (record c.args.self.now { resources = t; passes = q }) c.args.defrag c.args.ignored.now c.args.destroyed.now (if_there (λ (d : ℕ). Closes p q s.backed t.backed s.memory t.memory d c.args.ignored.now c.args.destroyed.now) p.opened c.args.defrag ready.0 w.closes)

@@ -2,6 +2,7 @@ use Rattle.std.proofs.Common.{ap, map, refl}
 use Rattle.vk_model.specs.Sync.Node.{Runs}
 use Rattle.vk_laws.specs.DirectRuns.{bare_memory}
 use Rattle.vk_resources.specs.Held.{byte_at}
+use Rattle.vk_device.proofs.Allocating.{nothing_first}
 use Rattle.vk_device.proofs.Coming.{nothing_begun, nothing_held, none_there}
 use Rattle.vk_device.proofs.device.Device.new.Goals as goal
 
@@ -17,3 +18,6 @@ returns-clause-led c = λ t. record {
   offers = c.new-4.ensures;
   passes = nothing_begun c.new-2.result c.new-2.ensures c.new.result c.new.ensures.backed;
 }
+
+pub returns-clause-allocated : goal.returns-clause-allocated
+returns-clause-allocated c = nothing_first c.args.config c.new.result c.new-2.result c.new.ensures.memory c.new.ensures.backed c.new-2.ensures

@@ -2,7 +2,7 @@ use Rattle.std.proofs.Common.{ap, refl, arith}
 use Rattle.std.proofs.lemmas.Option.{slice_get_within}
 use Rattle.vk_backing.specs.Allotted.{Allotted}
 use Rattle.vk_device.proofs.Following.{fits_so_far}
-use Rattle.vk_device.proofs.Running.{has_run, has_written, is_offered, runnable, work_of}
+use Rattle.vk_device.proofs.Running.{has_run, piece_becomes, has_written, is_offered, runnable, work_of}
 use Rattle.vk_offers.specs.IsOffers.{name_of}
 use Rattle.vk_device.proofs.PassBytes.{piece_bytes}
 use Rattle.vk_device.proofs.device.Device.run.Goals as goal
@@ -54,3 +54,10 @@ returns-clause-rest c = λ t steps s led sound.
     let fits = fits_so_far c.no_fault_is_sound.ensures t s (c.defined_runs_follow.ensures t steps s run) sound in
     let can = runnable t steps s c.args.self.now led c.args.piece c.requires.among c.index.result.now c.index.ensures run sound.faultless c.commands_name_live.ensures fits c.offered_are_pieces.ensures.pieces c.pieces_are_byte_writes.ensures in
     c.run_piece.ensures.rest s.front.past _ led.matches can.fit can.content
+
+pub returns-clause-becomes : goal.returns-clause-becomes
+returns-clause-becomes c = λ t steps s led sound.
+    let run = c.direct_runs_are_runs.ensures t steps s _ led.run in
+    let fits = fits_so_far c.no_fault_is_sound.ensures t s (c.defined_runs_follow.ensures t steps s run) sound in
+    let can = runnable t steps s c.args.self.now led c.args.piece c.requires.among c.index.result.now c.index.ensures run sound.faultless c.commands_name_live.ensures fits c.offered_are_pieces.ensures.pieces c.pieces_are_byte_writes.ensures in
+    piece_becomes t steps s c.args.self.now led c.args.piece c.requires.among can.sources c.run_piece.new.self (c.run_piece.ensures.ran s.front.past _ led.matches can.fit can.content) c.run_piece.ensures.placed c.run_piece.ensures.cache

@@ -1,7 +1,7 @@
 use Rattle.std.proofs.Common.{◌≡◌}
 use Rattle.vk_backing.specs.PassAllots.{StaysAllotted}
 use Rattle.vk_resources.specs.Allocating.{allotted}
-use Rattle.vk_device.specs.Inner.Ready.{RestsIfClosed}
+use Rattle.vk_device.specs.Inner.Ready.{Between}
 use Rattle.vk_device.proofs.Picking.{Turns, left_on}
 use Rattle.vk_device.proofs.device.Device.run_picked.Given as goal
 
@@ -11,7 +11,7 @@ invariant-loop-commands g l = record {
   turns : Turns g.S.Scheduler.answer g.S.Scheduler.next l.fn.self (g.S.Scheduler.held l.fn.sched) l.entry l.self (g.S.Scheduler.held l.sched);
   same_allotted : allotted l.self.resources ≡ allotted l.fn.self.resources;
   stays : StaysAllotted (allotted l.fn.self.resources) l.fn.self.passes (allotted l.self.resources) l.self.passes;
-  rests : RestsIfClosed l.fn.self l.self;
+  between : Between l.fn.self l.self;
   failed : l.self.failed ≡ l.fn.self.failed;
 }
 

@@ -1,4 +1,4 @@
-use Rattle.std.proofs.Common.{◌≡◌, ap, sym, subst}
+use Rattle.std.proofs.Common.{◌≡◌, ap, sym, subst, true}
 use Rattle.vk_backing.specs.Allotted.{Allotted}
 use Rattle.vk_backing.specs.Backed.{Backed}
 use Rattle.vk_backing.specs.PassAllots.{PassAllots}
@@ -6,6 +6,7 @@ use Rattle.vk_backing.specs.PassSteps.{Opens}
 use Rattle.vk_backing.specs.Passing.{ArePassing}
 use Rattle.vk_backing.proofs.Opening.{opens_agree}
 use Rattle.vk_resources.specs.Allocating.{allotted}
+use Rattle.vk_resources.proofs.RestThrough.{rest_from}
 use Rattle.vk_resources.proofs.WritingBack.{reserved_stands, written_clean}
 use Rattle.vk_resources.proofs.resources.Resources.begin_pass.Goals as goal
 
@@ -32,3 +33,7 @@ returns-clause-agree c = opens_agree c.args.passes.now c.reserve_places.new.pass
 pub returns-clause-allots : goal.returns-clause-allots
 returns-clause-allots c =
     subst (λ (a : Allotted). PassAllots (allotted c.args.self.now) c.args.passes.now a c.reserve_places.new.passes c.args.defrag) (sym c.write_all_back.ensures.allotted) c.in_ok-reserve_places.ensures.allots
+
+pub returns-clause-rest : goal.returns-clause-rest
+returns-clause-rest c =
+    let r = c.in_ok-reserve_places.ensures.reserves in rest_from c.args.self.now c.reserve_places.new.self c.write_all_back.new.self (λ b. true) r.memory r.resources r.shapes c.write_all_back.ensures.rest

@@ -11,7 +11,7 @@ loop-index-preserved c =
     let ids = c.args.passes.now.moving in
     let lt : c.loop-index.index < length ids = omega (arith, c.loop-index-test.true, c.moves-index-end.ensures) in
     let is : c.nth_id.result ≡ get_or ids c.loop-index.index 0 = sym (get_or_from_slice_get ids c.loop-index.index c.nth_id.result 0 c.nth_id.ensures) in
-    written_more ids c.loop-index.index c.args.self.now c.loop-index.self c.write_back.new.self lt c.loop-index.invariant c.write_back.ensures.keeps (subst (λ (i : ℕ). WritesBack (i ∷ []) c.loop-index.self c.write_back.new.self) is c.write_back.ensures.written)
+    written_more ids c.loop-index.index c.args.self.now c.loop-index.self c.write_back.new.self lt c.loop-index.invariant c.write_back.ensures.keeps (subst (λ (i : ℕ). WritesBack (i ∷ []) c.loop-index.self c.write_back.new.self) is c.write_back.ensures.written) c.write_back.ensures.rest
 
 pub returns-clause-written : goal.returns-clause-written
 returns-clause-written c =
