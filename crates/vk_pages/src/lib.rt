@@ -4,4 +4,6 @@
 
 mod pairs;
 
-pub use pairs::{access, commands, example, objects, order};
+pub use pairs::{
+    access, commands, example, hazards_misread, misread, objects, order, runs_misread,
+};

@@ -7,6 +7,9 @@ pub mod Queues
 pub mod Pools
 pub mod Ahead
 pub mod EasilyMistaken
+pub mod TracesMisread
+pub mod HazardsMisread
+pub mod Misread
 pub mod TracesOfObjects
 pub mod RulesOfObjects
 pub mod TracesOfCommands
@@ -25,3 +28,4 @@ pub mod LinearBlocks
 pub mod PoolBlocks
 pub mod Stops
 pub mod Passes
+pub mod RunsMisread

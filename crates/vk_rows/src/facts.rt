@@ -8,6 +8,7 @@ ghost use Rattle.vk_rows.specs.LinearBlocks.{LinearBlocks};
 ghost use Rattle.vk_rows.specs.PoolBlocks.{PoolBlocks};
 ghost use Rattle.vk_rows.specs.Stops.{Stopping};
 ghost use Rattle.vk_rows.specs.Passes.{PassRows};
+ghost use Rattle.vk_rows.specs.RunsMisread.{RunsMisread};
 
 /// Allocations that find no room.
 pub fn no_room()
@@ -58,4 +59,10 @@ pub fn stopping()
 /// Runs through caches: what memory and caches hold of a byte, step by step.
 pub fn queue_caches()
     ensures { QueueCaches }
+{}
+
+/// Wrong readings of what has room, of what runs next and of what caches hold: traces without a fault
+/// that each has otherwise.
+pub fn runs_misread()
+    ensures { RunsMisread }
 {}

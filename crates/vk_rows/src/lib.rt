@@ -7,10 +7,10 @@ mod facts;
 mod traces;
 
 pub use facts::{
-    addresses, limits, linear_blocks, no_room, passes, places, pool_blocks, queue_caches, stopping,
-    work,
+    addresses, limits, linear_blocks, no_room, passes, places, pool_blocks, queue_caches,
+    runs_misread, stopping, work,
 };
 pub use traces::{
-    ahead, easily_mistaken, images, objects, pools, queues, rules_of_access, rules_of_commands,
-    rules_of_objects, rules_of_order, uploads,
+    ahead, easily_mistaken, images, misread, objects, pools, queues, rules_of_access,
+    rules_of_commands, rules_of_objects, rules_of_order, uploads,
 };

@@ -5,6 +5,7 @@ ghost use Rattle.vk_rows.specs.Queues.{Queues};
 ghost use Rattle.vk_rows.specs.Pools.{Pools};
 ghost use Rattle.vk_rows.specs.Ahead.{Ahead};
 ghost use Rattle.vk_rows.specs.EasilyMistaken.{EasilyMistaken};
+ghost use Rattle.vk_rows.specs.Misread.{Misread};
 ghost use Rattle.vk_rows.specs.RulesOfObjects.{RulesOfObjects};
 ghost use Rattle.vk_rows.specs.RulesOfCommands.{RulesOfCommands};
 ghost use Rattle.vk_rows.specs.RulesOfOrder.{RulesOfOrder};
@@ -43,6 +44,11 @@ pub fn ahead()
 /// What is easily mistaken in the definitions: a trace for each reading, and its corrected trace.
 pub fn easily_mistaken()
     ensures { EasilyMistaken }
+{}
+
+/// Wrong readings of the definitions: a trace that each judges otherwise, and its corrected trace.
+pub fn misread()
+    ensures { Misread }
 {}
 
 /// Each rule on objects, broken alone and corrected.
