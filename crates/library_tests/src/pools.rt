@@ -4,7 +4,7 @@ ghost use Rattle.vk_model.specs.Run.Runs.{Step, Stage};
 ghost use Rattle.vk_device.specs.Led.{Led};
 
 use super::expect::expect;
-use super::replays::{accepted, config, replayed};
+use super::replays::{accepted, config, replayed, replayed_by};
 use std::alloc::Global;
 use std::test::Fail;
 use vk_device::{Device, replay};
@@ -55,6 +55,28 @@ fn buffers_fill_blocks(rt: HostRuntime) -> Result<(), Fail> {
         None,
     ];
     expect(&rt, "the buffers", seen_in_blocks(rt.alloc())?, wanted);
+    Ok(())
+}
+
+/// The host writes two atoms of a buffer through its cache, and flushes neither.
+const UNFLUSHED: &str = r#"[["buffer",1,128,1,"exclusive",["dedicated",2]],["map",1],
+["write",1,0,"aa"],["write",1,64,"bb"]]"#;
+
+/// What is seen of the buffer where the first option is picked, and where the last one is.
+fn seen_behind_the_cache(alloc: Global) -> Result<[Seen; 2], Fail> {
+    let entries = read_trace(alloc, UNFLUSHED.as_bytes())?;
+    let first = replayed(alloc, &entries)?;
+    let last = replayed_by(alloc, &entries, &mut Last)?;
+    Ok([seen(&first.device, 1), seen(&last.device, 1)])
+}
+
+/// A write stays in the host's cache where no atom is touched. Where each atom is, before each access,
+/// the first write loads both, and the second one writes both back and drops them.
+#[test]
+fn a_write_stays_in_the_cache(rt: HostRuntime) -> Result<(), Fail> {
+    let wanted = [Some((0, 0, [0xcd, 0xcd])), Some((0, 0, [0xaa, 0xcd]))];
+    let got = seen_behind_the_cache(rt.alloc())?;
+    expect(&rt, "the buffer", got, wanted);
     Ok(())
 }
 
@@ -110,31 +132,33 @@ fn a_part_is_copied(rt: HostRuntime) -> Result<(), Fail> {
     Ok(())
 }
 
-/// Where buffers 17 and 15 lie: in which memory object, and where it begins there.
-type Places = [Option<(u64, u64)>; 2];
+/// What is seen of buffer 17, and where buffer 15 lies: in which memory object, and where it begins
+/// there.
+type Places = (Seen, Option<(u64, u64)>);
 
-/// Each second of eight buffers in two blocks ends; then a pass begins, and ends without limits, with
-/// one of bytes, with one of moves, or where the first buffer stays.
+/// The host writes the last of eight buffers in two blocks, and each second of them ends; then a pass
+/// begins, and ends without limits, with one of bytes, with one of moves, or where the first buffer
+/// stays.
 static MOVED: [(&str, Places); 5] = [
     (
-        r#"[["pool",1,"tlsf",1,4096,2],["buffer",10,1024,3,"exclusive",["pool",1]],["buffer",11,1024,3,"exclusive",["pool",1]],["buffer",12,1024,3,"exclusive",["pool",1]],["buffer",13,1024,3,"exclusive",["pool",1]],["buffer",14,1024,3,"exclusive",["pool",1]],["buffer",15,1024,3,"exclusive",["pool",1]],["buffer",16,1024,3,"exclusive",["pool",1]],["buffer",17,1024,3,"exclusive",["pool",1]],["destroy",10],["destroy",12],["destroy",14],["destroy",16],["defrag",2,1,0,0],["pass",2]]"#,
-        [Some((1, 3072)), Some((1, 1024))],
+        r#"[["pool",1,"tlsf",1,4096,2],["buffer",10,1024,3,"exclusive",["pool",1]],["buffer",11,1024,3,"exclusive",["pool",1]],["buffer",12,1024,3,"exclusive",["pool",1]],["buffer",13,1024,3,"exclusive",["pool",1]],["buffer",14,1024,3,"exclusive",["pool",1]],["buffer",15,1024,3,"exclusive",["pool",1]],["buffer",16,1024,3,"exclusive",["pool",1]],["buffer",17,1024,3,"exclusive",["pool",1]],["map",17],["write",17,0,"abcd"],["destroy",10],["destroy",12],["destroy",14],["destroy",16],["defrag",2,1,0,0],["pass",2]]"#,
+        (Some((1, 3072, [0xab, 0xcd])), Some((1, 1024))),
     ),
     (
-        r#"[["pool",1,"tlsf",1,4096,2],["buffer",10,1024,3,"exclusive",["pool",1]],["buffer",11,1024,3,"exclusive",["pool",1]],["buffer",12,1024,3,"exclusive",["pool",1]],["buffer",13,1024,3,"exclusive",["pool",1]],["buffer",14,1024,3,"exclusive",["pool",1]],["buffer",15,1024,3,"exclusive",["pool",1]],["buffer",16,1024,3,"exclusive",["pool",1]],["buffer",17,1024,3,"exclusive",["pool",1]],["destroy",10],["destroy",12],["destroy",14],["destroy",16],["defrag",2,1,0,0],["pass",2],["end_pass",2,[],[]]]"#,
-        [Some((0, 0)), Some((0, 2048))],
+        r#"[["pool",1,"tlsf",1,4096,2],["buffer",10,1024,3,"exclusive",["pool",1]],["buffer",11,1024,3,"exclusive",["pool",1]],["buffer",12,1024,3,"exclusive",["pool",1]],["buffer",13,1024,3,"exclusive",["pool",1]],["buffer",14,1024,3,"exclusive",["pool",1]],["buffer",15,1024,3,"exclusive",["pool",1]],["buffer",16,1024,3,"exclusive",["pool",1]],["buffer",17,1024,3,"exclusive",["pool",1]],["map",17],["write",17,0,"abcd"],["destroy",10],["destroy",12],["destroy",14],["destroy",16],["defrag",2,1,0,0],["pass",2],["end_pass",2,[],[]]]"#,
+        (Some((0, 0, [0xab, 0xcd])), Some((0, 2048))),
     ),
     (
-        r#"[["pool",1,"tlsf",1,4096,2],["buffer",10,1024,3,"exclusive",["pool",1]],["buffer",11,1024,3,"exclusive",["pool",1]],["buffer",12,1024,3,"exclusive",["pool",1]],["buffer",13,1024,3,"exclusive",["pool",1]],["buffer",14,1024,3,"exclusive",["pool",1]],["buffer",15,1024,3,"exclusive",["pool",1]],["buffer",16,1024,3,"exclusive",["pool",1]],["buffer",17,1024,3,"exclusive",["pool",1]],["destroy",10],["destroy",12],["destroy",14],["destroy",16],["defrag",2,1,1024,0],["pass",2],["end_pass",2,[],[]]]"#,
-        [Some((0, 0)), Some((1, 1024))],
+        r#"[["pool",1,"tlsf",1,4096,2],["buffer",10,1024,3,"exclusive",["pool",1]],["buffer",11,1024,3,"exclusive",["pool",1]],["buffer",12,1024,3,"exclusive",["pool",1]],["buffer",13,1024,3,"exclusive",["pool",1]],["buffer",14,1024,3,"exclusive",["pool",1]],["buffer",15,1024,3,"exclusive",["pool",1]],["buffer",16,1024,3,"exclusive",["pool",1]],["buffer",17,1024,3,"exclusive",["pool",1]],["map",17],["write",17,0,"abcd"],["destroy",10],["destroy",12],["destroy",14],["destroy",16],["defrag",2,1,1024,0],["pass",2],["end_pass",2,[],[]]]"#,
+        (Some((0, 0, [0xab, 0xcd])), Some((1, 1024))),
     ),
     (
-        r#"[["pool",1,"tlsf",1,4096,2],["buffer",10,1024,3,"exclusive",["pool",1]],["buffer",11,1024,3,"exclusive",["pool",1]],["buffer",12,1024,3,"exclusive",["pool",1]],["buffer",13,1024,3,"exclusive",["pool",1]],["buffer",14,1024,3,"exclusive",["pool",1]],["buffer",15,1024,3,"exclusive",["pool",1]],["buffer",16,1024,3,"exclusive",["pool",1]],["buffer",17,1024,3,"exclusive",["pool",1]],["destroy",10],["destroy",12],["destroy",14],["destroy",16],["defrag",2,1,0,1],["pass",2],["end_pass",2,[],[]]]"#,
-        [Some((0, 0)), Some((1, 1024))],
+        r#"[["pool",1,"tlsf",1,4096,2],["buffer",10,1024,3,"exclusive",["pool",1]],["buffer",11,1024,3,"exclusive",["pool",1]],["buffer",12,1024,3,"exclusive",["pool",1]],["buffer",13,1024,3,"exclusive",["pool",1]],["buffer",14,1024,3,"exclusive",["pool",1]],["buffer",15,1024,3,"exclusive",["pool",1]],["buffer",16,1024,3,"exclusive",["pool",1]],["buffer",17,1024,3,"exclusive",["pool",1]],["map",17],["write",17,0,"abcd"],["destroy",10],["destroy",12],["destroy",14],["destroy",16],["defrag",2,1,0,1],["pass",2],["end_pass",2,[],[]]]"#,
+        (Some((0, 0, [0xab, 0xcd])), Some((1, 1024))),
     ),
     (
-        r#"[["pool",1,"tlsf",1,4096,2],["buffer",10,1024,3,"exclusive",["pool",1]],["buffer",11,1024,3,"exclusive",["pool",1]],["buffer",12,1024,3,"exclusive",["pool",1]],["buffer",13,1024,3,"exclusive",["pool",1]],["buffer",14,1024,3,"exclusive",["pool",1]],["buffer",15,1024,3,"exclusive",["pool",1]],["buffer",16,1024,3,"exclusive",["pool",1]],["buffer",17,1024,3,"exclusive",["pool",1]],["destroy",10],["destroy",12],["destroy",14],["destroy",16],["defrag",2,1,0,0],["pass",2],["end_pass",2,[17],[]]]"#,
-        [Some((1, 3072)), Some((0, 2048))],
+        r#"[["pool",1,"tlsf",1,4096,2],["buffer",10,1024,3,"exclusive",["pool",1]],["buffer",11,1024,3,"exclusive",["pool",1]],["buffer",12,1024,3,"exclusive",["pool",1]],["buffer",13,1024,3,"exclusive",["pool",1]],["buffer",14,1024,3,"exclusive",["pool",1]],["buffer",15,1024,3,"exclusive",["pool",1]],["buffer",16,1024,3,"exclusive",["pool",1]],["buffer",17,1024,3,"exclusive",["pool",1]],["map",17],["write",17,0,"abcd"],["destroy",10],["destroy",12],["destroy",14],["destroy",16],["defrag",2,1,0,0],["pass",2],["end_pass",2,[17],[]]]"#,
+        (Some((1, 3072, [0xab, 0xcd])), Some((0, 2048))),
     ),
 ];
 
@@ -147,10 +171,11 @@ fn places(alloc: Global, text: &str) -> Result<Places, Fail> {
     let entries = read_trace(alloc, text.as_bytes())?;
     let replayed = replayed(alloc, &entries)?;
     let device = &replayed.device;
-    Ok([place(device, 17), place(device, 15)])
+    Ok((seen(device, 17), place(device, 15)))
 }
 
-/// What moves lies at its new place when the pass has ended, and not before.
+/// What moves lies at its new place when the pass has ended, and not before, with the bytes that it
+/// had.
 #[test]
 fn passes_move_buffers(rt: HostRuntime) -> Result<(), Fail> {
     for row in &MOVED {
