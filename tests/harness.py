@@ -56,16 +56,16 @@ def answered(output="", status=0, error=""):
     return Answer(output.encode(), status, error.encode())
 
 
-def run(command, data=b"", **streams):
+def run(command, data=b"", seconds=SECONDS, **streams):
     """What a program answers to the data on standard input, or to the streams that are given."""
     if "stdin" not in streams:
         streams["input"] = data
     streams.setdefault("stdout", subprocess.PIPE)
     streams.setdefault("stderr", subprocess.PIPE)
     try:
-        ended = subprocess.run(command, timeout=SECONDS, check=False, **streams)
+        ended = subprocess.run(command, timeout=seconds, check=False, **streams)
     except subprocess.TimeoutExpired as late:
-        return Answer(late.stdout or b"", f"none: no end in {SECONDS} s", late.stderr or b"")
+        return Answer(late.stdout or b"", f"none: no end in {seconds} s", late.stderr or b"")
     return Answer(ended.stdout or b"", ended.returncode, ended.stderr or b"")
 
 

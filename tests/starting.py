@@ -202,6 +202,13 @@ def from_another_folder(repository):
     return difference(RELEASED, by_path) or difference(RELEASED, by_name)
 
 
+def ignores_the_limit_on_files(repository):
+    """The program isn't ended by the signal of a file that may grow no more."""
+    repository.program("built/replay", "kill -XFSZ $$; echo alive")
+    repository.release()
+    return difference(said("alive\n"), repository.start())
+
+
 def compares_the_release(repository):
     """The released programs are compared with those that were built, byte for byte."""
     command = [repository.top / "tools/release", "--compare", repository.top / "built/replay", repository.top / "built/explain"]
@@ -226,6 +233,7 @@ def all_tests():
     yield tested("nothing can be kept", where_nothing_can_be_kept)
     yield tested("the path alone", tells_the_path)
     yield tested("another folder", from_another_folder)
+    yield tested("the limit on files", ignores_the_limit_on_files)
     yield tested("the comparison of a release", compares_the_release)
 
 

@@ -1,5 +1,5 @@
 #!/usr/bin/env python3
-"""Tests what both programs make of their streams and of little memory: statuses 2, 4 and 5 and their texts.
+"""Tests what both programs make of their streams: statuses 2 and 5 and their texts.
 
     PROGRAM=FILE EXPLAIN=FILE tests/streams.py [WORD]
 
@@ -8,6 +8,8 @@ With WORD only the tests run whose names have it.
 
 import os
 import re
+import resource
+import signal
 import socket
 import subprocess
 import sys
@@ -25,7 +27,6 @@ MOST_READS = 1_048_576
 PROGRAMS = [("replay", PROGRAM), ("explain", EXPLAIN)]
 READ_FAILED = answered("", 5, "read failed\n")
 TOO_LONG = answered("", 5, "too long\n")
-NO_MEMORY = answered("", 4, "no memory\n")
 WRITE_FAILED = answered("", 5, "write failed after 0 bytes\n")
 
 TRACE = (TOP / "examples" / "first_upload.json").read_bytes()
@@ -225,6 +226,49 @@ def replay_tests():
         yield compared(f"replay: no trace, and {redirection}", answered("", 2), command, b"[[")
 
 
+def short_output_tests(name, program):
+    """Outputs that take a front: a file that may grow no more, and a pipe that takes no more now."""
+    whole = LONG_ANSWERS[name]
+    for length in (0, 1, 1_000, 4_096, len(whole) - 1):
+        title = f"{name}: a file of at most {length} bytes, with its signal ignored"
+        yield Test(title, lambda n=length: judge_file_limit([program, *LONG_OPTIONS[name]], whole, n))
+    title = f"{name}: a pipe that is full and isn't waited for"
+    yield Test(title, lambda: judge_full_pipe([program, *LONG_OPTIONS[name]], whole))
+
+
+def judge_file_limit(command, whole, length):
+    """Runs a program whose output is a file that may have so many bytes."""
+
+    def limit():
+        signal.signal(signal.SIGXFSZ, signal.SIG_IGN)
+        resource.setrlimit(resource.RLIMIT_FSIZE, (length, length))
+
+    with tempfile.TemporaryFile() as file:
+        # (where this wasn't asked for, Python would take the signal back to what ends a program)
+        options = {"preexec_fn": limit, "restore_signals": False}
+        answer = run(command, LONG, stdout=file, **options)
+        file.seek(0)
+        said = answered("", 5, f"write failed after {length} bytes\n")
+        return difference(said._replace(output=whole[:length]), answer._replace(output=file.read()))
+
+
+def judge_full_pipe(command, whole):
+    """Runs a program whose output is a pipe that nobody reads, and that isn't waited for."""
+    reader, writer = os.pipe()
+    os.set_blocking(writer, False)
+    try:
+        answer = run(command, LONG, stdout=writer)
+        os.close(writer)
+        writer = -1
+        with os.fdopen(reader, "rb") as pipe:
+            begins = pipe.read()
+    finally:
+        if writer >= 0:
+            os.close(writer)
+    said = answered("", 5, f"write failed after {len(begins)} bytes\n")
+    return difference(said._replace(output=whole[: len(begins)]), answer._replace(output=begins))
+
+
 def judge_output(program, path, mode):
     """Runs the program with what is at the path as standard output."""
     number = os.open(path, mode)
@@ -266,63 +310,6 @@ def judge_early_end(command, whole, front=10):
     return f"wanted: {wanted}\n  came:   {Answer(begins, program.returncode, error)}"
 
 
-# ---- little memory
-
-
-def limited(mebibytes, program, data):
-    """What the program answers with so much address space."""
-    command = ["sh", "-c", f'ulimit -v {mebibytes * 1024} && exec "$@"', "sh", program]
-    return run(command, data)
-
-
-def room_needed(program):
-    """The least number of mebibytes with which the program answers to a trace without entries."""
-    low, high = 0, 4096
-    if limited(high, program, b"[]").status != 0:
-        raise Skipped(f"the program doesn't start in {high} MiB, as one with a sanitizer doesn't")
-    while high - low > 1:
-        middle = (low + high) // 2
-        if limited(middle, program, b"[]").status == 0:
-            high = middle
-        else:
-            low = middle
-    return high
-
-
-def memory_tests(name, program):
-    """Of what needs more memory than there is nothing is written, and it is said."""
-    entries = b",".join(b'["semaphore",%d,0]' % k for k in range(120_000))
-    texts = {"blanks": TRACE.ljust(MOST_BYTES, b" "), "entries": b"[" + entries + b"]"}
-    for what, text in texts.items():
-        title = f"{name}: little memory for many {what}"
-        yield Test(title, lambda t=text: judge_little(program, t))
-    yield Test(f"{name}: just enough memory to start", lambda: judge_start(program, ANSWERS[name]))
-
-
-def judge_little(program, text):
-    """Runs the program with room to start and little more, and with enough."""
-    needed = room_needed(program)
-    for more in (0, 1, 2, 4, 8):
-        found = difference(NO_MEMORY, limited(needed + more, program, text))
-        if found:
-            return f"with {needed + more} MiB: {found}"
-    answer = limited(needed + 2048, program, text)
-    return None if answer.status == 0 else f"with {needed + 2048} MiB: {answer}"
-
-
-def judge_start(program, whole):
-    """With too little memory to start nothing is written, and the status isn't 0."""
-    needed = room_needed(program)
-    for mebibytes in range(1, needed + 3):
-        answer = limited(mebibytes, program, TRACE)
-        is_whole = answer == whole
-        if not is_whole and (answer.status == 0 or answer.output):
-            return f"with {mebibytes} MiB: {answer}"
-        if answer.status == 4 and answer != NO_MEMORY:
-            return f"with {mebibytes} MiB: {answer}"
-    return None
-
-
 def all_tests():
     """All of them."""
     word = sys.argv[1] if len(sys.argv) > 1 else ""
@@ -330,7 +317,7 @@ def all_tests():
     for name, program in PROGRAMS:
         tests += input_tests(name, program)
         tests += output_tests(name, program)
-        tests += memory_tests(name, program)
+        tests += short_output_tests(name, program)
     tests += replay_tests()
     return [test for test in tests if word in test.name]
 

@@ -1,0 +1,104 @@
+#!/usr/bin/env python3
+"""Tests what both programs make of little memory: statuses and texts.
+
+    PROGRAM=FILE EXPLAIN=FILE tests/room.py [WORD]
+
+With WORD only the tests run whose names have it.
+"""
+
+import sys
+
+sys.dont_write_bytecode = True
+
+from harness import Skipped, Test, answered, difference, main, run
+from streams import ANSWERS, MOST_BYTES, PROGRAMS, TRACE
+
+NO_MEMORY = answered("", 4, "no memory\n")
+
+
+# ---- little memory
+
+
+def limited(mebibytes, program, data):
+    """What the program answers with so much address space."""
+    command = ["sh", "-c", f'ulimit -v {mebibytes * 1024} && exec "$@"', "sh", program]
+    return run(command, data)
+
+
+def room_needed(program):
+    """The least number of mebibytes with which the program answers to a trace without entries."""
+    low, high = 0, 4096
+    if limited(high, program, b"[]").status != 0:
+        raise Skipped(f"the program doesn't start in {high} MiB, as one with a sanitizer doesn't")
+    while high - low > 1:
+        middle = (low + high) // 2
+        if limited(middle, program, b"[]").status == 0:
+            high = middle
+        else:
+            low = middle
+    return high
+
+
+def memory_tests(name, program):
+    """Of what needs more memory than there is nothing is written, and it is said."""
+    entries = b",".join(b'["semaphore",%d,0]' % k for k in range(120_000))
+    texts = {"blanks": TRACE.ljust(MOST_BYTES, b" "), "entries": b"[" + entries + b"]"}
+    for what, text in texts.items():
+        title = f"{name}: little memory for many {what}"
+        yield Test(title, lambda t=text: judge_little(program, t))
+    yield Test(f"{name}: just enough memory to start", lambda: judge_start(program, ANSWERS[name]))
+
+
+def judge_little(program, text):
+    """Runs the program with room to start and little more, and with enough."""
+    needed = room_needed(program)
+    for more in (0, 1, 2, 4, 8):
+        found = difference(NO_MEMORY, limited(needed + more, program, text))
+        if found:
+            return f"with {needed + more} MiB: {found}"
+    answer = limited(needed + 2048, program, text)
+    return None if answer.status == 0 else f"with {needed + 2048} MiB: {answer}"
+
+
+def judge_start(program, whole):
+    """With too little memory to start nothing is written, and the status isn't 0."""
+    needed = room_needed(program)
+    for mebibytes in range(1, needed + 3):
+        answer = limited(mebibytes, program, TRACE)
+        is_whole = answer == whole
+        if not is_whole and (answer.status == 0 or answer.output):
+            return f"with {mebibytes} MiB: {answer}"
+        if answer.status == 4 and answer != NO_MEMORY:
+            return f"with {mebibytes} MiB: {answer}"
+    return None
+
+
+def address_tests(name, program):
+    """Address space from nothing up, in steps of 64 KiB: no signal once the program has begun, and no half output."""
+    yield Test(f"{name}: address space in small steps", lambda: judge_steps(program, ANSWERS[name]))
+
+
+def judge_steps(program, whole):
+    """Where the program begins, each answer is the whole one or that of want of memory."""
+    has_begun = False
+    for kibibytes in range(0, room_needed(program) * 1024 + 2_048, 64):
+        command = ["sh", "-c", f'ulimit -v {kibibytes} && exec "$@"', "sh", program]
+        answer = run(command, TRACE)
+        has_begun |= answer in (whole, NO_MEMORY)
+        if answer not in (whole, NO_MEMORY) and (has_begun or answer.output or answer.status == 0):
+            return f"with {kibibytes} KiB: {answer}"
+    return None if answer == whole else f"with {kibibytes} KiB: {answer}"
+
+
+def all_tests():
+    """All of them."""
+    word = sys.argv[1] if len(sys.argv) > 1 else ""
+    tests = []
+    for name, program in PROGRAMS:
+        tests += memory_tests(name, program)
+        tests += address_tests(name, program)
+    return [test for test in tests if word in test.name]
+
+
+if __name__ == "__main__":
+    sys.exit(main(all_tests()))
