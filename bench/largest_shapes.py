@@ -212,6 +212,14 @@ def updates():
 
 
 @shape
+def whole_copies_each_with_a_short_fill():
+    before = [buffer(1, 1048576), buffer(2, 1048576), SEMAPHORE]
+    fills = "".join(f'["fill",1,{8 * k},4,{k}],' for k in range(43_500))
+    pair = lambda k: f'["copy",1,2,[[0,0,348000]]],{ON_ALL},["fill",1,{8 * k},4,7],{ON_ALL}'
+    return commands(before, pair, 15_000, f"{fills}{ON_ALL},")
+
+
+@shape
 def short_fills_and_whole_copies():
     before = [buffer(1, 1048576), buffer(2, 1048576), SEMAPHORE]
     fills = "".join(f'["fill",1,{8 * k},4,{k}],' for k in range(43_500))
@@ -254,9 +262,9 @@ def regions_of_a_copy_between_images():
 
 @shape
 def interleaved_rows():
-    before = [buffer(1, 67108864), image(2, 1024, 1, 256)]
-    begin = f'{transition(2, 0, 1, 1, 256)},["copy_out",2,1,1,['
-    return command(before, lambda k: f"[{k},4000,0,0,{k % 256},1,0,0,1,1000]", begin, "]]", 4_000)
+    before = [buffer(1, 16777216), image(2, 1024, 1, 16)]
+    begin = f'{transition(2, 0, 1, 1, 16)},["copy_out",2,1,1,['
+    return command(before, lambda k: f"[{k},4000,0,0,{k % 16},1,0,0,1,1000]", begin, "]]", 4_000)
 
 
 @shape
