@@ -1,9 +1,9 @@
 #!/usr/bin/env python3
 """Refuses what both programs ask of the C library, one call after another, and compares what they answer then.
 
-    PROGRAM=FILE EXPLAIN=FILE tests/refusals.py [--all] [--counts] [WORD]
+    PROGRAM=FILE EXPLAIN=FILE tests/refused_calls.py [--all] [--counts] [WORD]
 
-A library that is made of refusals.c (by `cc`, or by what CC names) runs a program again and again:
+A library that is made of refused_calls.c (by `cc`, or by what CC names) runs a program again and again:
 
 - Each allocation fails once alone, and once with all that come later: the answer is that no memory is left, and
   nothing is written; or it is the whole one.
@@ -88,7 +88,7 @@ class Refusing:
 
     def __init__(self, folder):
         self.folder = folder
-        self.library = os.path.join(folder, "refusals.so")
+        self.library = os.path.join(folder, "refused_calls.so")
         self.programs = {
             "replay": at_once(PROGRAM, "vk_replay", "replay"),
             "explain": at_once(EXPLAIN, "explain", "explain"),
@@ -99,10 +99,10 @@ class Refusing:
         compiler = os.environ.get("CC") or "cc"
         if shutil.which(compiler) is None:
             raise Skipped(f"there is no C compiler {compiler}")
-        source = str(TOP / "tests" / "refusals.c")
+        source = str(TOP / "tests" / "refused_calls.c")
         made = run([compiler, "-O1", "-shared", "-fPIC", "-o", self.library, source, "-ldl"])
         if made.status != 0:
-            raise Skipped(f"{compiler} doesn't compile refusals.c: {made.error.decode(errors='replace')}")
+            raise Skipped(f"{compiler} doesn't compile refused_calls.c: {made.error.decode(errors='replace')}")
         for name in self.programs:
             if not self.records([name], b"[]", "once"):
                 raise Skipped(f"{name} can't be run with another allocator")
@@ -257,7 +257,7 @@ def all_tests(refusing):
     try:
         refusing.make()
     except Skipped as why:
-        return [Test("refusals", lambda w=why: skip(w))]
+        return [Test("refused calls", lambda w=why: skip(w))]
     tests = [*argument_tests(refusing), *room_tests(refusing)]
     for name, text, kinds in texts():
         tests += tests_of(refusing, name, text, kinds)
