@@ -1,5 +1,5 @@
 #!/usr/bin/env python3
-"""Tests what both programs make of little memory: statuses and texts.
+"""Tests what both programs make of little memory and little stack: statuses and texts.
 
     PROGRAM=FILE EXPLAIN=FILE tests/room.py [WORD]
 
@@ -10,7 +10,7 @@ import sys
 
 sys.dont_write_bytecode = True
 
-from harness import Skipped, Test, answered, difference, main, run
+from harness import TOP, Skipped, Test, answered, difference, main, run
 from streams import ANSWERS, MOST_BYTES, PROGRAMS, TRACE
 
 NO_MEMORY = answered("", 4, "no memory\n")
@@ -90,6 +90,50 @@ def judge_steps(program, whole):
     return None if answer == whole else f"with {kibibytes} KiB: {answer}"
 
 
+# ---- little stack
+
+STACK = 64
+# Texts with much that lies in each other; `replay` says of each that it is no trace, and so does `explain`.
+NESTED = {
+    "arrays": b"[" * 8_388_608 + b"]" * 8_388_608,
+    "arrays that don't end": b"[" * MOST_BYTES,
+    "127 arrays": b"[" * 127 + b"]" * 127,
+    "16 objects": b'{"a":' * 16 + b"1" + b"}" * 16,
+    "127 objects": b'{"a":' * 127 + b"1" + b"}" * 127,
+    "a million objects": b'{"a":' * 1_000_000,
+    "arrays and objects": b'[{"a":' * 63 + b"1" + b"}]" * 63,
+    "arrays in an entry": b'[["buffer",' + b"[" * 120 + b"]" * 120 + b"]]",
+    "arrays in a barrier": b'[["submit",0,[[[],[["barrier",' + b"[" * 100 + b"]" * 100 + b",[],[]]],[]]]]]",
+}
+
+
+def on_small_stack(command, text):
+    """What a program answers with a small stack."""
+    return run(["sh", "-c", f'ulimit -s {STACK} && exec "$@"', "sh", *command], text)
+
+
+def stack_tests(name, program):
+    """With a small stack nested texts and all examples are answered as with a large one."""
+    ways = [[], ["--json"], ["--repaired"]] if name == "explain" else [[]]
+    texts = {f"{what} in each other": text for what, text in NESTED.items()}
+    for path in sorted((TOP / "examples").glob("*.json")):
+        if not path.name.endswith((".explained.json", ".repaired.json")):
+            texts[f"examples/{path.stem}"] = path.read_bytes()
+    for what, text in texts.items():
+        title = f"{name}: a stack of {STACK} KiB, {what}"
+        yield Test(title, lambda t=text: judge_stack([[program, *way] for way in ways], t))
+
+
+def judge_stack(commands, text):
+    """Compares each answer on a small stack with that on a large one."""
+    for command in commands:
+        wanted = run(command, text)
+        found = difference(wanted, on_small_stack(command, text))
+        if found or wanted.status not in (0, 1, 2, 3):
+            return f"{' '.join(command[1:])}: {found or wanted}"
+    return None
+
+
 def all_tests():
     """All of them."""
     word = sys.argv[1] if len(sys.argv) > 1 else ""
@@ -97,6 +141,7 @@ def all_tests():
     for name, program in PROGRAMS:
         tests += memory_tests(name, program)
         tests += address_tests(name, program)
+        tests += stack_tests(name, program)
     return [test for test in tests if word in test.name]
 
 

@@ -1,11 +1,15 @@
 use crate::entries::trace;
 use serde_json::Value;
 use std::alloc::{AllocError, Global};
-use vk_json::count_objects;
+use vk_json::{count_objects, first_nested};
 
 /// The most objects of an input whose value is built: each takes up to a thousand bytes there, and no
 /// trace has one.
 const MOST_OBJECTS: u64 = 65_536;
+
+/// The most arrays of an input of which one lies in another and whose value is built: each takes up to
+/// a thousand bytes of the stack there, and a trace has nine.
+const MOST_NESTED: u64 = 16;
 
 /// Where something begins in an input that is no trace.
 #[derive(Drop)]
@@ -56,6 +60,13 @@ pub fn mistake_of(alloc: Global, input: &[u8]) -> Result<Option<Mistake>, AllocE
             found: "an object",
         }));
     }
+    if let Some(place) = first_nested(alloc, text, MOST_NESTED)? {
+        return Ok(Some(Mistake {
+            place: MistakePlace::Byte(place),
+            expected: "at most 16 arrays nested in each other",
+            found: "one more",
+        }));
+    }
     match Value::from_str(alloc, text) {
         Ok(value) => mistake_in(alloc, &value),
         Err(error) if error.is_memory() => Err(AllocError),
@@ -68,7 +79,7 @@ pub fn mistake_of(alloc: Global, input: &[u8]) -> Result<Option<Mistake>, AllocE
             found: if error.is_eof() {
                 "the end of the input"
             } else {
-                "a syntax error, or arrays nested more than 127 deep"
+                "a syntax error"
             },
         })),
     }
