@@ -7,7 +7,8 @@ Traces are drawn as by random_traces.py until so many are refused; a drawn trace
 broken by leaving out one entry, command, element, wait or signal, if that breaks it. Of each it is counted
 by its rule whether a repair is reported, whether the changed trace is accepted, and whether the trace that
 `--repaired` writes is. Prints a row for each rule. With --failing FOLDER the traces that aren't accepted
-in the end are written there, each named by its seed and number.
+in the end are written there, each named by its seed and number. With --having FORM only traces are looked
+at that have an entry of this form, such as defrag.
 """
 
 import argparse
@@ -70,6 +71,7 @@ def arguments():
     parser.add_argument("program", help="the program `explain`, as it was built")
     parser.add_argument("--count", type=int, default=200, help="how many refused traces are looked at")
     parser.add_argument("--seed", type=int, default=0, help="where the drawing begins")
+    parser.add_argument("--having", metavar="FORM", help="look at traces alone with an entry of this form")
     parser.add_argument("--failing", type=Path, help="where traces go that aren't accepted in the end")
     return parser.parse_args()
 
@@ -87,7 +89,8 @@ def main():
     while tried.total() < options.count:
         chance = random.Random(f"{options.seed}/{number}")
         trace, heaps = draw(chance)
-        refused = broken(chance, trace, heaps, 12)
+        is_meant = options.having is None or any(entry[0] == options.having for entry in trace)
+        refused = broken(chance, trace, heaps, 12) if is_meant else None
         if refused is not None:
             is_accepted = count(options.program, refused, tried, counts)
             if options.failing and not is_accepted:

@@ -1,7 +1,7 @@
 use crate::cases::{Candidates, Case};
 use crate::{
-    ending, entries, events, extents, hazards, layouts, lives, masks, overlaps, owners, places,
-    ranges, semaphores, sizes, staging, undefined, waits,
+    ending, entries, events, extents, hazards, layouts, lives, masks, overlaps, owners, pass_lists,
+    passes, places, ranges, semaphores, sizes, staging, undefined, waits,
 };
 use std::alloc::AllocError;
 use vk_model::Rule;
@@ -52,6 +52,7 @@ fn by_entry(case: &Case<'_>, found: &mut Candidates) -> Result<(), AllocError> {
             extents::within_images(case, found)
         }
         Rule::Overlap => {
+            pass_lists::listed_once(case, found)?;
             overlaps::overlap(case, found)?;
             staging::within_one(case, found)
         }
@@ -68,6 +69,15 @@ fn by_command(case: &Case<'_>, found: &mut Candidates) -> Result<(), AllocError>
         Rule::OwnerPair => owners::owner_pair(case, found),
         Rule::EventState => events::event_state(case, found),
         Rule::EventDependency => events::event_dependency(case, found),
+        _ => by_pass(case, found),
+    }
+}
+
+fn by_pass(case: &Case<'_>, found: &mut Candidates) -> Result<(), AllocError> {
+    match case.rule {
+        Rule::PassState => passes::pass_state(case, found),
+        Rule::PassBusy => ending::pass_busy(case, found),
+        Rule::PassWrite => passes::pass_ended(case, found),
         _ => Ok(()),
     }
 }

@@ -1,9 +1,13 @@
 use crate::cases::{Candidates, Case};
+use crate::entries::unmap_all;
 use crate::host_hazards;
-use crate::ids::{has_id, ids_of_command};
+use crate::lives::is_live;
 use crate::orders::covering;
+use crate::pass_lists::without;
+use crate::passes::uses_in_pool;
 use crate::places::memory_of;
-use crate::waits::{held, signal_earlier, signal_for};
+use crate::uses::{Use, meet, uses_of};
+use crate::waits::{add_held, held, signal_earlier, signal_for};
 use std::alloc::AllocError;
 use vk_edits::{Change, EditList, InBatch};
 use vk_model::{Action, Batch, Entry, SemaphoreValue, Sequence};
@@ -11,17 +15,30 @@ use vk_model::{Action, Batch, Entry, SemaphoreValue, Sequence};
 /// Repairs of the end of an object that is in use: the host waits for what uses it; a batch that
 /// waits is signaled first; what lies in it is destroyed before.
 pub fn in_use(case: &Case<'_>, found: &mut Candidates) -> Result<(), AllocError> {
-    host_hazards::in_use(case, found)?;
-    if let Action::Host(Entry::Destroy { resource }) = case.refused.action {
-        for held in [
-            StartedBy::Signaled,
-            StartedBy::SignaledAfter,
-            StartedBy::SignaledEarlier,
-        ] {
-            after_held(case, *resource, held, found)?;
-        }
-    }
+    let uses = uses_of(case.alloc, case.refused.action)?;
+    known_complete(case, uses.as_slice(), found)?;
     destroyed_before(case, found)
+}
+
+/// Repairs of a begin or an end of a pass while resources of its pool are in use: the same for all of
+/// them.
+pub fn pass_busy(case: &Case<'_>, found: &mut Candidates) -> Result<(), AllocError> {
+    let uses = uses_in_pool(case)?;
+    known_complete(case, uses.as_slice(), found)
+}
+
+/// The host waits for what uses some resources; a batch that waits is signaled first.
+fn known_complete(case: &Case<'_>, uses: &[Use], found: &mut Candidates) -> Result<(), AllocError> {
+    host_hazards::waits(case, uses, found)?;
+    for held in [
+        StartedBy::Signaled,
+        StartedBy::SignaledAfter,
+        StartedBy::SignaledEarlier,
+        StartedBy::SignaledAlone,
+    ] {
+        after_held(case, uses, held, found)?;
+    }
+    Ok(())
 }
 
 /// How batches that wait are started.
@@ -33,14 +50,20 @@ enum StartedBy {
     SignaledAfter,
     /// What signals it later comes before.
     SignaledEarlier,
+    /// The host signals what those wait for alone that use the resources.
+    SignaledAlone,
 }
 
 fn start_held(
     case: &Case<'_>,
+    used: &[Use],
     started_by: StartedBy,
     edits: &mut EditList,
 ) -> Result<(), AllocError> {
-    let waits = held(case)?;
+    let waits = match started_by {
+        StartedBy::SignaledAlone => held_by_users(case, used)?,
+        _ => held(case)?,
+    };
     match started_by {
         StartedBy::SignaledEarlier => signal_earlier(case, waits.as_slice(), edits),
         _ => {
@@ -53,22 +76,39 @@ fn start_held(
     }
 }
 
-/// Batches that wait are started, and the host waits for those that use a resource.
+/// What the batches wait for that aren't started and use some resources.
+fn held_by_users(case: &Case<'_>, used: &[Use]) -> Result<Vec<SemaphoreValue>, AllocError> {
+    let mut all = Vec::new(case.alloc);
+    for (number, entry) in case.trace.iter().enumerate() {
+        if number < case.refused.entry {
+            if let Entry::Submit { batches, .. } = entry {
+                for batch in batches.as_slice() {
+                    if uses(case, batch, used)? {
+                        add_held(case, batch, &mut all)?;
+                    }
+                }
+            }
+        }
+    }
+    Ok(all)
+}
+
+/// Batches that wait are started, and the host waits for those that use some resources.
 fn after_held(
     case: &Case<'_>,
-    resource: u32,
+    used: &[Use],
     started_by: StartedBy,
     found: &mut Candidates,
 ) -> Result<(), AllocError> {
     let mut edits = case.edits();
-    start_held(case, started_by, &mut edits)?;
+    start_held(case, used, started_by, &mut edits)?;
     let mut waits = Vec::new(case.alloc);
     let mut count = 0;
     for (number, entry) in case.trace.iter().enumerate() {
         if number < case.refused.entry {
             if let Entry::Submit { batches, .. } = entry {
                 for (place, batch) in batches.as_slice().iter().enumerate() {
-                    if uses(case, batch, resource)? {
+                    if uses(case, batch, used)? {
                         let id = case.fresh_id(count);
                         count = 1u32.saturating_add(count);
                         let at = InBatch {
@@ -90,10 +130,10 @@ fn after_held(
     found.add(edits)
 }
 
-fn uses(case: &Case<'_>, batch: &Batch, resource: u32) -> Result<bool, AllocError> {
+fn uses(case: &Case<'_>, batch: &Batch, used: &[Use]) -> Result<bool, AllocError> {
     for command in batch.commands.as_slice() {
-        let all = ids_of_command(case.alloc, command)?;
-        if has_id(all.as_slice(), resource) {
+        let all = uses_of(case.alloc, Action::Run(command))?;
+        if meet(all.as_slice(), used) {
             return Ok(true);
         }
     }
@@ -129,7 +169,10 @@ fn destroyed_before(case: &Case<'_>, found: &mut Candidates) -> Result<(), Alloc
     for point in case.earlier {
         if let Action::Host(entry) = point.action {
             if let Some(resource) = entry.made_id() {
-                if memory_of(entry) == ended && !is_destroyed(case, resource) {
+                if memory_of(entry) == ended && is_live(case, resource) {
+                    if let Action::Host(Entry::DropPool { .. }) = case.refused.action {
+                        unmap_all(case, resource, &mut edits)?;
+                    }
                     edits.insert(case.refused.entry, Entry::Destroy { resource })?;
                     not_later(case, resource, &mut edits)?;
                 }
@@ -141,22 +184,16 @@ fn destroyed_before(case: &Case<'_>, found: &mut Candidates) -> Result<(), Alloc
 
 fn not_later(case: &Case<'_>, id: u32, edits: &mut EditList) -> Result<(), AllocError> {
     for (number, entry) in case.trace.iter().enumerate() {
-        if let Entry::Destroy { resource } = entry {
-            if *resource == id && number > case.refused.entry {
-                edits.remove(number)?;
+        if number > case.refused.entry {
+            match entry {
+                Entry::Destroy { resource } if *resource == id => edits.remove(number)?,
+                Entry::Unmap { buffer } if *buffer == id => edits.remove(number)?,
+                Entry::EndPass { destroyed, .. } if destroyed.as_slice().contains(&id) => {
+                    edits.replace(number, without(case, entry, &[id])?)?;
+                }
+                _ => {}
             }
         }
     }
     Ok(())
-}
-
-fn is_destroyed(case: &Case<'_>, id: u32) -> bool {
-    for point in case.earlier {
-        if let Action::Host(Entry::Destroy { resource }) = point.action {
-            if *resource == id {
-                return true;
-            }
-        }
-    }
-    false
 }

@@ -1,7 +1,9 @@
 use crate::cases::{Candidates, Case};
+use crate::defrags::new_defrag;
 use crate::places::visible;
 use crate::uses::uses_of;
 use std::alloc::AllocError;
+use vk_edits::EditList;
 use vk_model::{Action, BufferInfo, Duplicate, Entry, ImageInfo, Usage};
 
 /// A resource is mapped fewer times than this.
@@ -22,7 +24,8 @@ pub fn new_id(case: &Case<'_>, found: &mut Candidates) -> Result<(), AllocError>
             id,
             initial: *initial,
         },
-        _ => Entry::Event { id },
+        Entry::Event { .. } => Entry::Event { id },
+        _ => return new_defrag(case, found),
     };
     replaced(case, case.refused.entry, fresh, found)
 }
@@ -36,6 +39,19 @@ pub fn replaced(
 ) -> Result<(), AllocError> {
     let mut edits = case.edits();
     edits.replace(number, entry)?;
+    found.add(edits)
+}
+
+/// A later entry before the refused one.
+pub fn moved_before(
+    case: &Case<'_>,
+    number: usize,
+    entry: &Entry,
+    found: &mut Candidates,
+) -> Result<(), AllocError> {
+    let mut edits = case.edits();
+    edits.insert(case.refused.entry, entry.duplicate()?)?;
+    edits.remove(number)?;
     found.add(edits)
 }
 
@@ -151,6 +167,9 @@ pub fn map_state(case: &Case<'_>, found: &mut Candidates) -> Result<(), AllocErr
             inserted(case, number, Entry::Map { buffer: *buffer }, found)?;
             mapped_elsewhere(case, *buffer, found)
         }
+        Action::Host(Entry::EndPass { destroyed, .. }) => {
+            unmapped(case, destroyed.as_slice(), found)
+        }
         _ => Ok(()),
     }
 }
@@ -168,4 +187,38 @@ fn mapped_elsewhere(
         found.add(edits)?;
     }
     Ok(())
+}
+
+/// What an end of a pass destroys is unmapped before, as often as it is mapped.
+fn unmapped(case: &Case<'_>, destroyed: &[u32], found: &mut Candidates) -> Result<(), AllocError> {
+    let mut edits = case.edits();
+    for buffer in destroyed {
+        unmap_all(case, *buffer, &mut edits)?;
+    }
+    found.add(edits)
+}
+
+/// A buffer is unmapped before the entry, as often as it has been mapped and not unmapped.
+pub fn unmap_all(case: &Case<'_>, buffer: u32, edits: &mut EditList) -> Result<(), AllocError> {
+    for _ in 0..times_mapped(case, buffer) {
+        edits.insert(case.refused.entry, Entry::Unmap { buffer })?;
+    }
+    Ok(())
+}
+
+/// How often a buffer has been mapped and not unmapped.
+fn times_mapped(case: &Case<'_>, id: u32) -> usize {
+    let mut times: usize = 0;
+    for point in case.earlier {
+        match point.action {
+            Action::Host(Entry::Map { buffer }) if *buffer == id => {
+                times = times.saturating_add(1);
+            }
+            Action::Host(Entry::Unmap { buffer }) if *buffer == id => {
+                times = times.saturating_sub(1);
+            }
+            _ => {}
+        }
+    }
+    times
 }

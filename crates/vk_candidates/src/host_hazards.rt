@@ -50,23 +50,28 @@ fn planned(barrier: bool, waiting: Ordering, invalidate: bool) -> Plan {
 
 /// Repairs of a hazard of a point of the host.
 pub fn hazards(case: &Case<'_>, found: &mut Candidates) -> Result<(), AllocError> {
+    let uses = uses_of(case.alloc, case.refused.action)?;
     if matches!(case.rule, Rule::HazardWar) {
-        before_host(case, &waits_alone(), found)
+        before_host(case, &waits_alone(), uses.as_slice(), found)
     } else {
-        before_host(case, &plans(), found)
+        before_host(case, &plans(), uses.as_slice(), found)
     }
 }
 
-/// Repairs of the end of an object that is in use.
-pub fn in_use(case: &Case<'_>, found: &mut Candidates) -> Result<(), AllocError> {
-    before_host(case, &waits_alone(), found)
+/// The host waits for the commands that use some resources.
+pub fn waits(case: &Case<'_>, uses: &[Use], found: &mut Candidates) -> Result<(), AllocError> {
+    before_host(case, &waits_alone(), uses, found)
 }
 
-/// Repairs before a point of the host, by each of some plans.
-fn before_host(case: &Case<'_>, plans: &[Plan], found: &mut Candidates) -> Result<(), AllocError> {
-    let uses = uses_of(case.alloc, case.refused.action)?;
+/// Repairs before a point of the host that uses some resources, by each of some plans.
+fn before_host(
+    case: &Case<'_>,
+    plans: &[Plan],
+    uses: &[Use],
+    found: &mut Candidates,
+) -> Result<(), AllocError> {
     for plan in plans {
-        by_plan(case, *plan, uses.as_slice(), found)?;
+        by_plan(case, *plan, uses, found)?;
     }
     Ok(())
 }

@@ -18,6 +18,8 @@ pub enum Kind {
     Event,
     /// A buffer or an image.
     Resource,
+    /// A defragmentation.
+    Defrag,
 }
 
 impl Kind {
@@ -29,7 +31,8 @@ impl Kind {
             | (Kind::Memory, Entry::Memory { .. })
             | (Kind::Pool, Entry::Pool { .. })
             | (Kind::Semaphore, Entry::Semaphore { .. })
-            | (Kind::Event, Entry::Event { .. }) => true,
+            | (Kind::Event, Entry::Event { .. })
+            | (Kind::Defrag, Entry::Defrag { .. }) => true,
             _ => false,
         }
     }
@@ -74,7 +77,9 @@ pub fn ids_of_entry(alloc: Global, entry: &Entry) -> Result<Vec<Named>, AllocErr
         Entry::Buffer { info, .. } => ids_of_place(alloc, info.place),
         Entry::Image { info, .. } => ids_of_place(alloc, info.place),
         Entry::Free { memory } => Ok(vec![in alloc; naming(*memory, Kind::Memory)]?),
-        Entry::DropPool { pool } => Ok(vec![in alloc; naming(*pool, Kind::Pool)]?),
+        Entry::DropPool { pool } | Entry::Defrag { pool, .. } => {
+            Ok(vec![in alloc; naming(*pool, Kind::Pool)]?)
+        }
         Entry::Destroy { resource } => Ok(vec![in alloc; naming(*resource, Kind::Resource)]?),
         Entry::Map { buffer }
         | Entry::Unmap { buffer }
@@ -92,8 +97,33 @@ pub fn ids_of_entry(alloc: Global, entry: &Entry) -> Result<Vec<Named>, AllocErr
             }
             Ok(all)
         }
+        Entry::Pass { defrag } | Entry::EndDefrag { defrag } => {
+            Ok(vec![in alloc; naming(*defrag, Kind::Defrag)]?)
+        }
+        Entry::EndPass {
+            defrag,
+            ignored,
+            destroyed,
+        } => ids_of_end(alloc, *defrag, ignored.as_slice(), destroyed.as_slice()),
         _ => Ok(Vec::new(alloc)),
     }
+}
+
+/// The ids that an end of a pass names.
+fn ids_of_end(
+    alloc: Global,
+    defrag: u32,
+    ignored: &[u32],
+    destroyed: &[u32],
+) -> Result<Vec<Named>, AllocError> {
+    let mut all = vec![in alloc; naming(defrag, Kind::Defrag)]?;
+    for id in ignored {
+        all.push(naming(*id, Kind::Resource))?;
+    }
+    for id in destroyed {
+        all.push(naming(*id, Kind::Resource))?;
+    }
+    Ok(all)
 }
 
 fn ids_of_place(alloc: Global, place: Place) -> Result<Vec<Named>, AllocError> {
@@ -107,7 +137,7 @@ fn ids_of_place(alloc: Global, place: Place) -> Result<Vec<Named>, AllocError> {
 }
 
 /// The ids that a command names.
-pub fn ids_of_command(alloc: Global, command: &Cmd) -> Result<Vec<Named>, AllocError> {
+fn ids_of_command(alloc: Global, command: &Cmd) -> Result<Vec<Named>, AllocError> {
     match command {
         Cmd::Fill { buffer, .. } | Cmd::Update { buffer, .. } => {
             Ok(vec![in alloc; naming(*buffer, Kind::Buffer)]?)
@@ -189,7 +219,7 @@ pub fn names(alloc: Global, entry: &Entry, id: u32) -> Result<bool, AllocError> 
 }
 
 /// Whether an id is among those that are named.
-pub fn has_id(all: &[Named], id: u32) -> bool {
+fn has_id(all: &[Named], id: u32) -> bool {
     for one in all {
         if one.id == id {
             return true;

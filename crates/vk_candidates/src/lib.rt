@@ -4,6 +4,7 @@
 mod by_rule;
 mod cases;
 mod contents;
+mod defrags;
 mod ending;
 mod entries;
 mod events;
@@ -21,6 +22,8 @@ mod orders;
 mod overlaps;
 mod owners;
 mod ownership;
+mod pass_lists;
+mod passes;
 mod pieces;
 mod places;
 mod ranges;

@@ -253,11 +253,14 @@ pub fn pool_size(case: &Case<'_>, found: &mut Candidates) -> Result<(), AllocErr
     dedicated(case, case.refused.entry, entry, found)
 }
 
-/// A place from below, or a pool that has an upper end.
+/// A place from below, or a pool that has an upper end; a pool that can be defragmented.
 pub fn pool_kind(case: &Case<'_>, found: &mut Candidates) -> Result<(), AllocError> {
     let Action::Host(entry) = case.refused.action else {
         return Ok(());
     };
+    if let Entry::Defrag { pool, .. } = entry {
+        return general(case, *pool, found);
+    }
     let pool = memory_of(entry);
     if let Some(id) = entry.made_id() {
         let lower = with_place(entry, id, Place::Pool { pool })?;
@@ -273,6 +276,30 @@ pub fn pool_kind(case: &Case<'_>, found: &mut Candidates) -> Result<(), AllocErr
             },
         };
         replaced(case, number, linear, found)?;
+    }
+    Ok(())
+}
+
+/// A pool that can be defragmented; also with each place at its upper end from below.
+fn general(case: &Case<'_>, pool: u32, found: &mut Candidates) -> Result<(), AllocError> {
+    for is_lower in [false, true] {
+        let mut edits = case.edits();
+        for (number, entry) in case.trace.iter().enumerate() {
+            match entry {
+                Entry::Pool { id, info } if *id == pool => {
+                    let kind = PoolKind::Tlsf;
+                    let info = PoolInfo { kind, ..*info };
+                    edits.replace(number, Entry::Pool { id: pool, info })?;
+                }
+                Entry::Buffer { id, .. } | Entry::Image { id, .. }
+                    if is_lower && memory_of(entry) == pool => {
+                    let lower = with_place(entry, *id, Place::Pool { pool })?;
+                    edits.replace(number, lower)?;
+                }
+                _ => {}
+            }
+        }
+        found.add(edits)?;
     }
     Ok(())
 }

@@ -45,7 +45,8 @@ fn renamed_submit(submit: SemaphoreSubmit, renaming: Renaming) -> SemaphoreSubmi
     }
 }
 
-fn renamed_entry(entry: &Entry, renaming: Renaming) -> Result<Entry, AllocError> {
+/// An entry that names another id; in the lists of an end of a pass none is changed.
+pub fn renamed_entry(entry: &Entry, renaming: Renaming) -> Result<Entry, AllocError> {
     let mut changed = entry.duplicate()?;
     match &mut changed {
         Entry::Map { buffer }
@@ -56,6 +57,10 @@ fn renamed_entry(entry: &Entry, renaming: Renaming) -> Result<Entry, AllocError>
         | Entry::Invalidate { buffer, .. } => *buffer = renaming.of(*buffer),
         Entry::Destroy { resource } => *resource = renaming.of(*resource),
         Entry::Signal { semaphore, .. } => *semaphore = renaming.of(*semaphore),
+        Entry::Defrag { pool, .. } => *pool = renaming.of(*pool),
+        Entry::Pass { defrag } | Entry::EndPass { defrag, .. } | Entry::EndDefrag { defrag } => {
+            *defrag = renaming.of(*defrag);
+        }
         _ => {}
     }
     Ok(changed)

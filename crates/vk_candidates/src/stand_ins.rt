@@ -55,7 +55,7 @@ pub fn stand_in(
             }
             Ok(())
         }
-        Kind::Semaphore | Kind::Event => Ok(()),
+        Kind::Semaphore | Kind::Event | Kind::Defrag => Ok(()),
     }
 }
 

@@ -17,7 +17,8 @@ fn read(resource: u32) -> Use {
     }
 }
 
-fn write(resource: u32) -> Use {
+/// A resource that is written.
+pub fn write(resource: u32) -> Use {
     Use {
         resource,
         is_write: true,

@@ -47,26 +47,27 @@ pub fn held(case: &Case<'_>) -> Result<Vec<SemaphoreValue>, AllocError> {
     for (number, entry) in case.trace.iter().enumerate() {
         if number < case.refused.entry {
             if let Entry::Submit { batches, .. } = entry {
-                held_in(case, batches.as_slice(), &mut all)?;
+                for batch in batches.as_slice() {
+                    add_held(case, batch, &mut all)?;
+                }
             }
         }
     }
     Ok(all)
 }
 
-fn held_in(
+/// With what a batch waits for that hasn't been signaled.
+pub fn add_held(
     case: &Case<'_>,
-    batches: &[Batch],
+    batch: &Batch,
     all: &mut Vec<SemaphoreValue>,
 ) -> Result<(), AllocError> {
-    for batch in batches {
-        for wait in batch.waits.as_slice() {
-            let semaphore = wait.semaphore;
-            let value = wait.value;
-            let is_new = !has_value(all.as_slice(), semaphore, value);
-            if is_new && last_value(case, semaphore) < value {
-                all.push(SemaphoreValue { semaphore, value })?;
-            }
+    for wait in batch.waits.as_slice() {
+        let semaphore = wait.semaphore;
+        let value = wait.value;
+        let is_new = !has_value(all.as_slice(), semaphore, value);
+        if is_new && last_value(case, semaphore) < value {
+            all.push(SemaphoreValue { semaphore, value })?;
         }
     }
     Ok(())

@@ -1,6 +1,6 @@
 use crate::edits::{Change, Edit, Member};
 use std::alloc::{AllocError, Global};
-use vk_model::{Accesses, Cmd, Dependency, Duplicate, Element, Sequence};
+use vk_model::{Accesses, Cmd, Dependency, Duplicate, Element, Entry, Sequence};
 
 /// In so many ways a barrier is made less.
 pub const STEPS: usize = 3;
@@ -42,9 +42,17 @@ fn copy_of_member(member: &Member) -> Result<Member, AllocError> {
     }
 }
 
-/// Whether the trace asks for as much without an edit: what is moved or taken apart stays whole.
+/// Whether the trace asks for as much without an edit: what is moved or taken apart stays whole, and
+/// what is destroyed is.
 pub fn may_go(edits: &[Edit], number: usize) -> bool {
     match edits.get(number) {
+        Some(
+            Edit::Entry {
+                change: Change::Insert,
+                entry: Entry::Destroy { .. },
+                ..
+            },
+        ) => false,
         Some(
             Edit::Entry {
                 change: Change::Insert,

@@ -198,6 +198,8 @@ fn summary_members(
     push_member(&mut members, "pools", summary.pools)?;
     push_member(&mut members, "semaphores", summary.semaphores)?;
     push_member(&mut members, "events", summary.events)?;
+    push_member(&mut members, "defragmentations", summary.defragmentations)?;
+    push_member(&mut members, "passes", summary.passes)?;
     members.push_str(",\"queues\":[")?;
     for (queue, submitted) in summary.queues.iter().enumerate() {
         if queue > 0 {

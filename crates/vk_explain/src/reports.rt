@@ -160,6 +160,10 @@ fn summary_lines(alloc: Global, summary: &Summary) -> Result<String, AllocError>
     let points = summary.points as u64;
     push_count(&mut lines, ", ", points, "point", "points")?;
     push_made(&mut lines, summary)?;
+    if summary.passes > 0 {
+        let passes = summary.passes as u64;
+        push_count(&mut lines, "\nbegins ", passes, "pass", "passes")?;
+    }
     for (queue, submitted) in summary.queues.iter().enumerate() {
         if submitted.batches > 0 {
             write!(lines, "\nqueue {queue}")?;
@@ -183,7 +187,9 @@ fn push_made(lines: &mut String, summary: &Summary) -> Result<(), AllocError> {
     let begun = push_objects(lines, begun, objects, "memory object", "memory objects")?;
     let begun = push_objects(lines, begun, summary.pools, "pool", "pools")?;
     let begun = push_objects(lines, begun, summary.semaphores, "semaphore", "semaphores")?;
-    push_objects(lines, begun, summary.events, "event", "events")?;
+    let begun = push_objects(lines, begun, summary.events, "event", "events")?;
+    let count = summary.defragmentations;
+    push_objects(lines, begun, count, "defragmentation", "defragmentations")?;
     Ok(())
 }
 

@@ -14,6 +14,7 @@ use Rattle.vk_facts.specs.declared.facts.Fact.{Fact}
 use Rattle.vk_facts.specs.declared.facts.Fact.TheVariants as fact
 use Rattle.vk_facts.specs.declared.hazards.HazardFact.{HazardFact}
 use Rattle.vk_facts.specs.declared.lives.Life.{Life}
+use Rattle.vk_facts.specs.declared.strays.StrayId.{StrayId}
 
 -- How a point is called (profile).
 abbrev pub called : At → List ℕ
@@ -104,11 +105,16 @@ hazard_text f = earlier_text f.earlier.row.point ++ (common_text f.byte ++ order
 abbrev pub wanted_text : ObjectKind → List ℕ
 wanted_text k = codes " as a " ++ object_text k
 
+-- That a resource isn't in the pool of a defragmentation (profile).
+abbrev pub stray_text : StrayId → List ℕ
+stray_text s = named (codes "id ") s.life.id ++ ((named (codes " isn't in pool ") s.pool ++ named (codes " of defragmentation ") s.defrag) ++ life_text s.life None)
+
 -- What is said of a fact (profile).
 abbrev pub fact_text : Fact → List ℕ
 fact_text (fact.Hazard f) = hazard_text f
 fact_text (fact.Made l) = named (codes "id ") l.id ++ life_text l None
 fact_text (fact.Dead d) = named (codes "id ") d.life.id ++ (wanted_text d.wanted ++ life_text d.life d.made_ever)
+fact_text (fact.Stray s) = stray_text s
 fact_text (fact.Signaled f) = counter_text (codes ", signaled value ") f
 fact_text (fact.Waited f) = counter_text (codes ", awaited value ") f
 

@@ -2,7 +2,7 @@ ghost use Rattle.std.specs.Prelude.{◌≡◌, ◌++◌, OnOk, IfOk, Some, strin
 ghost use Rattle.vk_fact_words.specs.FactText as text;
 
 use std::alloc::{AllocError, Global};
-use vk_facts::{CounterFact, DeadId, Fact, HazardFact, Life, ObjectKind};
+use vk_facts::{CounterFact, DeadId, Fact, HazardFact, Life, ObjectKind, StrayId};
 use vk_model::{At, Entry, Point};
 use vk_order::Byte;
 use vk_past::at_of;
@@ -25,9 +25,27 @@ pub fn push_fact(out: &mut String, fact: &Fact<'_>) -> Result<(), AllocError>
             push_life(out, &dead.life, &dead.made_ever)?;
             Ok(())
         }
+        Fact::Stray(stray) => push_stray(out, stray),
         Fact::Signaled(counter) => push_counter(out, ", signaled value ", counter),
         Fact::Waited(counter) => push_counter(out, ", awaited value ", counter),
     }
+}
+
+fn push_stray(out: &mut String, stray: &StrayId<'_>) -> Result<(), AllocError>
+    ensures { OnOk result (string_bytes out.new ≡ string_bytes out.old ++ text.stray_text stray.now) }
+{
+    push_named(out, "id ", stray.life.id as usize)?;
+    push_outside(out, stray)?;
+    push_life(out, &stray.life, &None)?;
+    Ok(())
+}
+
+fn push_outside(out: &mut String, stray: &StrayId<'_>) -> Result<(), AllocError>
+    ensures { OnOk result (string_bytes out.new ≡ string_bytes out.old ++ (text.named (codes " isn't in pool ") stray.now.pool ++ text.named (codes " of defragmentation ") stray.now.defrag)) }
+{
+    push_named(out, " isn't in pool ", stray.pool as usize)?;
+    push_named(out, " of defragmentation ", stray.defrag as usize)?;
+    Ok(())
 }
 
 fn push_wanted(out: &mut String, kind: ObjectKind) -> Result<(), AllocError>
@@ -270,6 +288,7 @@ pub fn point_lines(
         }
         Some(Fact::Made(life)) => push_life_lines(alloc, &mut lines, trace, life)?,
         Some(Fact::Dead(dead)) => push_dead_lines(alloc, &mut lines, trace, dead)?,
+        Some(Fact::Stray(stray)) => push_life_lines(alloc, &mut lines, trace, &stray.life)?,
         Some(Fact::Signaled(counter) | Fact::Waited(counter)) => {
             if let Some(last) = &counter.last {
                 push_line(alloc, &mut lines, trace, last)?;

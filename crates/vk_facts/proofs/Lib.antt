@@ -6,4 +6,5 @@ pub mod RowNodes
 pub mod SeenAlike
 pub mod HazardLemmas
 pub mod LifeLemmas
+pub mod StrayLemmas
 pub mod FaultLemmas

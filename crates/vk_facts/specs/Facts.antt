@@ -1,5 +1,5 @@
 -- What is reported of a point and a rule that it breaks.
-use Rattle.std.specs.Prelude.{◌≡◌, List, ◌∷◌, length, Option, Some, None, IsTrue, ⊤}
+use Rattle.std.specs.Prelude.{◌≡◌, List, ◌∷◌, length, Option, Some, None, IsTrue, false, ⊤}
 use Rattle.vk_model.specs.declared.rule.Rule.{Rule}
 use Rattle.vk_model.specs.declared.rule.Rule.TheVariants as rule
 use Rattle.vk_model.specs.declared.entry.Entry.{Entry}
@@ -7,6 +7,7 @@ use Rattle.vk_model.specs.declared.rule.At.{At}
 use Rattle.vk_model.specs.Trace.Point.{Past, Point, at_of}
 use Rattle.vk_model.specs.Trace.Order.{order}
 use Rattle.vk_model.specs.Rules.Fault.{Comes}
+use Rattle.vk_model.specs.Rules.Ids.{breaks_live_id}
 use Rattle.vk_model.specs.Rules.Table.{breaks}
 use Rattle.vk_model.specs.Sync.Node.{nodes}
 use Rattle.vk_facts.specs.declared.hazards.Hazard.{Hazard}
@@ -16,6 +17,7 @@ use Rattle.vk_facts.specs.declared.facts.Fact.{Fact}
 use Rattle.vk_facts.specs.declared.facts.Fact.TheVariants as fact
 use Rattle.vk_facts.specs.Latest.{IsBest}
 use Rattle.vk_facts.specs.Lives.{IsMade, IsDead}
+use Rattle.vk_facts.specs.Strays.{IsStray}
 use Rattle.vk_facts.specs.Counters.{IsLow, IsEndless}
 
 -- What is reported of a point and a kind of hazard: the latest earlier node with which a node of the point is in hazard, or that there is none.
@@ -26,6 +28,7 @@ IsHazardOf past p h found = IsBest (p ∷ past) h (length (nodes past)) (length 
 abbrev pub IsSo : Rule → Past → Point → Fact → Type 0
 IsSo rule.NewId past p (fact.Made l) = IsMade past p (Some l)
 IsSo rule.LiveId past p (fact.Dead d) = IsDead past p (Some d)
+IsSo rule.LiveId past p (fact.Stray s) = IsStray past p.action s
 IsSo rule.SignalValue past p (fact.Signaled f) = IsLow past p (Some f)
 IsSo rule.WaitNever past p (fact.Waited f) = IsEndless past p (Some f)
 IsSo rule.HazardWar past p (fact.Hazard f) = IsHazardOf past p War (Some f)
@@ -36,7 +39,7 @@ IsSo _ past p _ = ⊥
 -- There is no fact that the rule is reported by: it isn't broken, or no fact is reported of it.
 abbrev pub IsUnreported : Rule → Past → Point → Type 0
 IsUnreported rule.NewId past p = IsMade past p None
-IsUnreported rule.LiveId past p = IsDead past p None
+IsUnreported rule.LiveId past p = breaks_live_id past p ≡ false
 IsUnreported rule.SignalValue past p = IsLow past p None
 IsUnreported rule.WaitNever past p = IsEndless past p None
 IsUnreported rule.HazardWar past p = IsHazardOf past p War None

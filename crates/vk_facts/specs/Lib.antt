@@ -1,4 +1,5 @@
 pub mod Lives
+pub mod Strays
 pub mod Counters
 pub mod Areas
 pub mod Hazards

@@ -1,8 +1,10 @@
-ghost use Rattle.std.specs.Prelude.{◌≡◌, ◌∷◌, [], IfOk, IfSome, IfNone, Some};
+ghost use Rattle.std.specs.Prelude.{◌≡◌, ◌∷◌, [], IfOk, IfSome, IfNone, Some, false};
+ghost use Rattle.std.specs.List.{list_any};
 ghost use Rattle.vk_model.specs.Trace.Point as spec;
 ghost use Rattle.vk_model.specs.declared.rule.Rule.TheVariants as rule;
+ghost use Rattle.vk_model.specs.Rules.Ids.{asked_by, is_dead, judged_in};
 ghost use Rattle.vk_model.specs.Rules.Table.{first_fault};
-ghost use Rattle.vk_model.specs.Trace.PointViews.{point_of};
+ghost use Rattle.vk_model.specs.Trace.PointViews.{action_of, point_of};
 ghost use Rattle.vk_queues.specs.PointViews.{past_of};
 ghost use Rattle.vk_facts.specs.Facts.{IsReported, IsReportedOf};
 ghost use Rattle.vk_facts.specs.Hazards.{rule_of};
@@ -11,8 +13,9 @@ use crate::counters::{CounterFact, endless_wait, low_signal};
 use crate::hazards::{Hazard, HazardFact};
 use crate::lives::{DeadId, Life, dead_id, made_id};
 use crate::past::Past;
+use crate::strays::{StrayId, stray_id};
 use std::alloc::{AllocError, Global};
-use vk_model::{At, Entry, Rule};
+use vk_model::{At, Entry, Point, Rule};
 use vk_past::{Split, split_of};
 
 /// What is so of a point that breaks a rule.
@@ -24,6 +27,8 @@ pub enum Fact<'a> {
     Made(Life<'a>),
     /// What became of an id that the point names.
     Dead(DeadId<'a>),
+    /// A resource that an end of a pass lists and that isn't in its pool.
+    Stray(StrayId<'a>),
     /// How far the semaphore is that the point signals.
     Signaled(CounterFact<'a>),
     /// How far a semaphore is that the point waits for.
@@ -81,7 +86,7 @@ impl<'a> Past<'a> {
         };
         match dead_id(self.alloc, split.older, &split.point)? {
             Some(dead) => Ok(Some(Fact::Dead(dead))),
-            None => Ok(None),
+            None => Ok(stray(split.older, &split.point)),
         }
     }
 
@@ -100,6 +105,14 @@ impl<'a> Past<'a> {
         let fact = endless_wait(split.older, &split.point)?;
         Some(Fact::Waited(fact))
     }
+}
+
+/// A resource of another pool that the end of a pass lists.
+fn stray<'a>(older: &[Point<'a>], point: &Point<'a>) -> Option<Fact<'a>>
+    ensures { list_any (is_dead (judged_in (past_of older.now) (point_of point.now))) (asked_by (action_of point.now.action)) ≡ false → IsReported rule.LiveId (past_of older.now) (point_of point.now) result }
+{
+    let stray = stray_id(older, point)?;
+    Some(Fact::Stray(stray))
 }
 
 /// What is so of the point that a trace is refused at, and of the rule that it breaks there. The

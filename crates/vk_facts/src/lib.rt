@@ -12,6 +12,7 @@ mod lives;
 mod pairs;
 mod past;
 mod regions;
+mod strays;
 mod touched;
 mod until;
 
@@ -21,3 +22,4 @@ pub use facts::{Fact, fact_of_fault};
 pub use hazards::{Hazard, HazardFact, Placed};
 pub use lives::{DeadId, Life};
 pub use past::Past;
+pub use strays::StrayId;

@@ -38,7 +38,7 @@ pub struct DeadId<'a> {
 }
 
 /// What became of an id by some points.
-fn life_of<'a>(points: &[Point<'a>], id: u32) -> Life<'a>
+pub fn life_of<'a>(points: &[Point<'a>], id: u32) -> Life<'a>
     ensures { IsLife (past_of points.now) id result }
 {
     Life {

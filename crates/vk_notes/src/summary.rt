@@ -30,6 +30,10 @@ pub struct Summary {
     pub semaphores: usize,
     /// How many events are made.
     pub events: usize,
+    /// How many defragmentations begin.
+    pub defragmentations: usize,
+    /// How many passes of defragmentations begin.
+    pub passes: usize,
     /// What is submitted to the queues 0 to 3.
     pub queues: [QueueSummary; 4],
     /// How many regions and ranges its commands have, elements its barriers, sets and awaits, and waits
@@ -59,6 +63,8 @@ pub fn summary_of(alloc: Global, trace: &[Entry]) -> Result<Summary, AllocError>
         pools: 0,
         semaphores: 0,
         events: 0,
+        defragmentations: 0,
+        passes: 0,
         queues: [nothing, nothing, nothing, nothing],
         parts: 0,
         read_bytes: 0,
@@ -79,6 +85,10 @@ impl Summary {
             Entry::Pool { .. } => self.pools = self.pools.saturating_add(1),
             Entry::Semaphore { .. } => self.semaphores = self.semaphores.saturating_add(1),
             Entry::Event { .. } => self.events = self.events.saturating_add(1),
+            Entry::Defrag { .. } => {
+                self.defragmentations = self.defragmentations.saturating_add(1);
+            }
+            Entry::Pass { .. } => self.passes = self.passes.saturating_add(1),
             Entry::Read { size, .. } => self.read_bytes = self.read_bytes.saturating_add(*size),
             Entry::Submit { queue, batches } => self.count_batches(*queue, batches.as_slice()),
             _ => {}

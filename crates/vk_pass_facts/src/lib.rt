@@ -23,4 +23,4 @@ pub use defrags::OpenDefrag;
 pub use facts::{PassFact, pass_fact_of};
 pub use moving::MovingResource;
 pub use passes::OpenPass;
-pub use states::PassState;
+pub use states::{NoPass, PassState};

@@ -16,10 +16,19 @@ pub enum PassState<'a> {
     Defrag(OpenDefrag<'a>),
     /// A pass is open.
     Pass(OpenPass<'a>),
-    /// No pass of the defragmentation of this id is open.
-    NoPass(u32),
+    /// No pass of the defragmentation is open.
+    NoPass(NoPass<'a>),
     /// A pass of the resource's pool is open.
     Moving(MovingResource<'a>),
+}
+
+/// That no pass of a defragmentation is open.
+#[derive(Clone, Copy)]
+pub struct NoPass<'a> {
+    /// The id of the defragmentation.
+    pub defrag: u32,
+    /// The pass that is open, which is of another one; none where no pass is.
+    pub other: Option<OpenPass<'a>>,
 }
 
 /// PASS_STATE: what a point doesn't fit, where it breaks the rule.
@@ -48,13 +57,16 @@ fn state_by<'a>(before: &Before<'_, 'a>, entry: &Entry) -> Option<PassState<'a>>
     }
 }
 
-/// That no pass of a defragmentation is open.
+/// That no pass of a defragmentation is open, and which one is.
 fn no_pass_of<'a>(before: &Before<'_, 'a>, defrag: u32) -> Option<PassState<'a>>
     ensures broken { is_some result ≡ not (rules.in_pass before.now defrag) }
     ensures reported { IfSome result (IsNoPass before.now defrag) }
 {
     match before.pass_of_defrag(defrag) {
         Some(_) => None,
-        None => Some(PassState::NoPass(defrag)),
+        None => Some(PassState::NoPass(NoPass {
+            defrag,
+            other: before.any_pass(),
+        })),
     }
 }

@@ -1,6 +1,6 @@
 use std::alloc::AllocError;
 use vk_model::Point;
-use vk_pass_facts::{MovingResource, OpenDefrag, OpenPass, PassState};
+use vk_pass_facts::{MovingResource, NoPass, OpenDefrag, OpenPass, PassState};
 use vk_past::at_of;
 use vk_words::push_at;
 
@@ -9,7 +9,7 @@ pub fn push_state(out: &mut String, state: PassState<'_>) -> Result<(), AllocErr
     match state {
         PassState::Defrag(defrag) => push_defrag(out, defrag),
         PassState::Pass(pass) => push_pass(out, pass),
-        PassState::NoPass(defrag) => write!(out, "no pass of defragmentation {defrag} is open"),
+        PassState::NoPass(none) => push_no_pass(out, none),
         PassState::Moving(resource) => push_moving(out, resource),
     }
 }
@@ -30,6 +30,19 @@ fn push_pass(out: &mut String, pass: OpenPass<'_>) -> Result<(), AllocError> {
     let defrag = pass.defrag;
     write!(out, "a pass of defragmentation {defrag} is open: ")?;
     push_begun(out, pass.begun)
+}
+
+/// Adds that no pass of a defragmentation is open, and which one is.
+fn push_no_pass(out: &mut String, none: NoPass<'_>) -> Result<(), AllocError> {
+    let defrag = none.defrag;
+    write!(out, "no pass of defragmentation {defrag} is open")?;
+    match none.other {
+        Some(pass) => {
+            out.push_str("; ")?;
+            push_pass(out, pass)
+        }
+        None => Ok(()),
+    }
 }
 
 /// Adds a resource that lies in a pool of which a pass is open.
