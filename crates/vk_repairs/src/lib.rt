@@ -4,6 +4,7 @@
 mod counting;
 mod found;
 mod judging;
+mod parts;
 mod repairs;
 mod seeking;
 

@@ -13,6 +13,7 @@ ghost use Rattle.vk_model.specs.declared.rule.At.{At as AnyAt};
 use crate::counting::all_points;
 use crate::found::Repair;
 use crate::judging::{is_among, judge, with_start};
+use crate::parts::parts_in;
 use crate::seeking::{edits_of, followed, followed_twice, sought};
 use std::alloc::{AllocError, Global};
 use vk_candidates::{Candidates, Kind, PLAIN, STAND_IN, WEAKER};
@@ -27,6 +28,11 @@ const MOST: usize = 60;
 /// In a trace of more points no lists are tried together.
 const MOST_FOR_MORE: usize = 1_024;
 
+/// Where the commands of a trace have so many parts to be compared, as rows of copies, half as many
+/// lists are judged, a third where they have twice as many, and so on. Where they have more, none are
+/// tried together, and no access is taken out of a barrier.
+const FEW_PARTS: u64 = 16_384;
+
 /// What is known of the refused trace.
 #[derive(Clone, Copy)]
 pub struct Refused<'a> {
@@ -38,6 +44,8 @@ pub struct Refused<'a> {
     pub sound: usize,
     /// How many points the trace has, once all batches are started.
     pub size: usize,
+    /// How many parts its commands have that judging compares.
+    pub parts: u64,
 }
 
 /// A repair of a refused trace, whose first fault is given: the first found that makes it accepted,
@@ -65,6 +73,7 @@ pub fn repair(
         at,
         sound: start.sound.len(),
         size,
+        parts: parts_in(trace),
     };
     answered(alloc, &refused, start.sound.as_slice(), rule)
 }
@@ -125,7 +134,7 @@ fn first_or_more(
     ensures { IfOk result (λ found. IfSome found (IsRepair refused.now.trace.now refused.now.at)) }
 {
     let found = first_of(alloc, refused, lists, kind)?;
-    if found.is_some() || refused.size > MOST_FOR_MORE {
+    if found.is_some() || refused.size > MOST_FOR_MORE || refused.parts > FEW_PARTS {
         return Ok(found);
     }
     let starts = sought(alloc, refused.trace, earlier, rule)?;
@@ -158,6 +167,9 @@ fn least(alloc: Global, refused: &Refused<'_>, found: Repair) -> Result<Repair, 
     let count = best.edits.len();
     for turn in 0..count {
         best = shorter(alloc, refused, best, count - 1 - turn)?;
+    }
+    if refused.parts > FEW_PARTS {
+        return Ok(best);
     }
     for number in 0..count {
         best = less_at(alloc, refused, best, number)?;
@@ -266,7 +278,7 @@ fn first_of(
 {
     let mut best = None;
     for (count, edits) in lists.into_iter().enumerate() {
-        if count < MOST {
+        if count < most_lists(refused.parts) {
             let offer = offered(alloc, refused, edits, kind)?;
             if is_accepted(&offer) {
                 return Ok(offer);
@@ -275,6 +287,11 @@ fn first_of(
         }
     }
     Ok(best)
+}
+
+/// How many lists of edits of a kind are judged: fewer where each takes long.
+fn most_lists(parts: u64) -> usize {
+    MOST / (1 + parts / FEW_PARTS) as usize
 }
 
 fn is_accepted(offer: &Option<Repair>) -> bool {
