@@ -98,7 +98,7 @@ NESTED = {
     "arrays": b"[" * 8_388_608 + b"]" * 8_388_608,
     "arrays that don't end": b"[" * MOST_BYTES,
     "127 arrays": b"[" * 127 + b"]" * 127,
-    "8 objects": b'{"a":' * 8 + b"1" + b"}" * 8,
+    "4 objects": b'{"a":' * 4 + b"1" + b"}" * 4,
     "127 objects": b'{"a":' * 127 + b"1" + b"}" * 127,
     "a million objects": b'{"a":' * 1_000_000,
     "arrays and objects": b'[{"a":' * 63 + b"1" + b"}]" * 63,
