@@ -16,5 +16,5 @@ mod reports;
 pub use explaining::{Explanation, Judgment, explanation_of, run};
 pub use forms::{Form, Wanted};
 pub use mending::repaired_of;
-pub use places::{InputPlace, place_of, place_of_member};
+pub use places::{InputPlace, place_of};
 pub use presentation::Presentation;

@@ -23,7 +23,7 @@ pub fn place_of(input: &[u8], at: At) -> Option<InputPlace> {
 }
 
 /// Where the member that these numbers lead to is written, in a text of JSON without objects.
-pub fn place_of_member(
+pub(crate) fn place_of_member(
     alloc: Global,
     input: &[u8],
     path: &[usize],

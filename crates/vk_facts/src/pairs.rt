@@ -41,7 +41,7 @@ impl Past<'_> {
     }
 
     /// What the later node of a hazard accesses.
-    pub fn later_areas(&self, hazard: Hazard, row: &Row<'_>) -> Result<Vec<Area>, AllocError>
+    pub(crate) fn later_areas(&self, hazard: Hazard, row: &Row<'_>) -> Result<Vec<Area>, AllocError>
         ensures { IfOk result (λ areas. (k : ℕ) → AreAreas areas.items (later_bytes self.now hazard (node_of k row.now))) }
     {
         match hazard {

@@ -65,7 +65,7 @@ impl ImageBytes {
     }
 
     /// How many levels of how many layers it has.
-    pub fn subresource_count(&self) -> u32
+    pub(crate) fn subresource_count(&self) -> u32
         ensures count { result ≡ self.now.layers * self.now.levels }
         ensures within { result ≤ 3328 }
     {

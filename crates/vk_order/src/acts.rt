@@ -92,7 +92,7 @@ impl Act<'_> {
     }
 
     /// Whether this is an element of a set, and the other one that of its await.
-    pub fn pairs_with(&self, other: &Act<'_>) -> bool
+    pub(crate) fn pairs_with(&self, other: &Act<'_>) -> bool
         ensures { result ≡ pairs (act_of self.now) (act_of other.now) }
     {
         match (self, other) {
