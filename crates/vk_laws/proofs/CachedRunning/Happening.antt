@@ -1,10 +1,11 @@
 -- Dependencies, waits and signals that happen at a stage are events of the machine, after what their queues' caches do.
-use Rattle.std.proofs.Common.{◌≡◌, ◌⊎◌, inl, inr, ⊎_elim, ℕ, zero, suc, List, [], ◌∷◌, ◌++◌, length, Bool, true, false, ◌&&◌, ◌||◌, not, IsTrue, Option, Some, None, refl, ap, sym, ◌∙◌, subst}
-use Rattle.std.specs.Prelude.{Contains, ◌==◌, is_some, nat_le, if◌then◌else◌}
-use Rattle.std.proofs.lemmas.Bool.{eqb-true, and_parts, and_from, or_cases, or_left, or_right}
+use Rattle.std.proofs.Common.{◌≡◌, ◌⊎◌, inl, inr, ⊎_elim, ℕ, zero, suc, List, [], ◌∷◌, ◌++◌, length, Bool, true, false, ◌&&◌, ◌||◌, not, IsTrue, Option, Some, None, refl, ap, sym, ◌∙◌, subst, arith}
+use Rattle.std.specs.Prelude.{Contains, ◌==◌, is_some, nat_lt, nat_le, bit_and, if◌then◌else◌}
+use Rattle.std.proofs.lemmas.Nat.{and_assoc}
+use Rattle.std.proofs.lemmas.Bool.{eqb-true, lt-ltb, and_parts, and_from, or_cases, or_left, or_right}
 use Rattle.vk_model.specs.declared.command.Cmd.{Cmd}
 use Rattle.vk_model.specs.declared.entry.Entry.{Entry}
-use Rattle.vk_model.specs.Basics.{holds}
+use Rattle.vk_model.specs.Basics.{holds, has_some}
 use Rattle.vk_model.specs.World.Bytes.{Byte, resource_at}
 use Rattle.vk_model.specs.World.Effect.{world}
 use Rattle.vk_model.specs.Trace.Point.{Past, Point}
@@ -12,10 +13,11 @@ use Rattle.vk_model.specs.Trace.Objects.{made, is_cached}
 use Rattle.vk_model.specs.Trace.Order.{order}
 use Rattle.vk_model.specs.Run.Caches.{Clean, Dirty, Cell, queue_agent, written_back, dropped}
 use Rattle.vk_model.specs.Run.Runs.{Name, Stage}
-use Rattle.vk_model.specs.Run.CachedRuns.{Cells, is_synchronization, makes_last_available, makes_byte_visible, after_node}
+use Rattle.vk_model.specs.World.Ownership.{dependency_of, is_release}
+use Rattle.vk_model.specs.Run.CachedRuns.{Cells, is_synchronization, makes_last_available, any_access, makes_byte_visible, after_node}
 use Rattle.vk_model.specs.Sync.Node.{Node, Act, Hosts, Waits, Signals, Runs, Depends, nodes}
 use Rattle.vk_model.specs.Sync.Edge.{edge, is_host, is_submit, pairs, by_semaphore, earlier, signaled_by}
-use Rattle.vk_model.specs.Sync.Seen.{Read, command_mask, host_mask, makes_writes_available, makes_writes_visible, available_by, invalidates, is_wait, to_host}
+use Rattle.vk_model.specs.Sync.Seen.{Read, command_mask, host_mask, makes_writes_available, makes_writes_visible, available_by, invalidates, is_wait, is_set, covers, to_host}
 use Rattle.vk_model.specs.Rules.Fault.{Comes}
 use Rattle.vk_laws.specs.Machine.{Task, Put, TraceAccesses, MayRun, latest}
 use Rattle.vk_laws.specs.Caches.{Touched, CellRan, Reached, Touch, Run}
@@ -86,6 +88,17 @@ edge_from_command ns k n x is h =
 
     no_semaphore : IsTrue (by_semaphore (earlier n ns) k n) → ⊥
     no_semaphore g = let none : signaled_by k.act ≡ None = ap signaled_by is in let h : false ≡ true = rw none at g in cc
+
+-- a mask that has reads by commands has some access
+reads_among : (mask : ℕ) → IsTrue (has_some mask (command_mask Read)) → IsTrue (has_some mask any_access)
+reads_among mask h = positive (bit_and mask any_access) refl
+  where
+    none : bit_and mask any_access ≡ 0 → bit_and mask (command_mask Read) ≡ 0
+    none z = sym (and_assoc (command_mask Read) mask any_access) ∙ ap (λ (k : ℕ). bit_and k (command_mask Read)) z
+
+    positive : (k : ℕ) → bit_and mask any_access ≡ k → IsTrue (has_some mask any_access)
+    positive zero z = let no : nat_lt 0 (bit_and mask (command_mask Read)) ≡ false = ap (nat_lt 0) (none z) in clash h no
+    positive (suc k) z = lt-ltb 0 (bit_and mask any_access) (omega (arith, z))
 
 -- ---- what comes before a node is the end of a past
 
@@ -226,12 +239,15 @@ module _ {t : List Entry} (known : Known t) where
       shows_too : (c : Byte) → IsTrue (makes_writes_visible (cached all n.number) (nodes all) (command_mask Read) c n n.act || is_wait n.act) → makes_byte_visible past n c ≡ true
       shows_too c h = ⊎_elim (λ v. or_right (is_wait n.act) _ (by_act n.act (visible_same (cached all n.number) (λ b. false) (nodes all) c (command_mask Read) n n.act v).0)) (λ v. or_left (is_wait n.act) _ v) (or_cases _ _ h)
         where
-          by_act : (d : Act) → IsTrue (makes_writes_visible (λ b. false) (nodes all) (command_mask Read) c n d) → IsTrue (makes_writes_visible (λ b. false) (nodes past) (command_mask Read) c n d)
+          by_act : (d : Act) → IsTrue (makes_writes_visible (λ b. false) (nodes all) (command_mask Read) c n d) → IsTrue (makes_writes_visible (λ b. false) (nodes past) any_access c n d)
+          by_act (Depends r d) h =
+              let kinds = and_parts (not (is_set r) && not (is_release n.point.queue d) && has_some (dependency_of d).destination_accesses.0 (command_mask Read)) (covers d c) h in
+              let some = and_parts (not (is_set r) && not (is_release n.point.queue d)) (has_some (dependency_of d).destination_accesses.0 (command_mask Read)) kinds.0 in
+              and_from _ _ (and_from _ _ some.0 (reads_among (dependency_of d).destination_accesses.0 some.1)) kinds.1
           by_act (Runs y) h = h
           by_act (Hosts y) h = h
           by_act (Waits s) h = h
           by_act (Signals s) h = h
-          by_act (Depends r d) h = h
 
       drop_done : (c : Byte) (b u : ℕ) → IsTrue ((caching_of all).makes_visible (event_task n) b c) → (after c).held b ≡ Some (Clean u) → ⊥
       drop_done c b u h held = by_agent b (ap (λ (o : Option Node). holds o (λ m. makes_visible_to all m b c)) (sym (event_at known n here)) ∙ h) held

@@ -10,7 +10,7 @@ use Rattle.vk_model.specs.World.Bytes.{Byte, in_buffer, in_image, resource_at, s
 use Rattle.vk_model.specs.World.ByteWrites.{ByteWrite, Source, Value, From}
 use Rattle.vk_model.specs.World.Effect.{written, reaches}
 use Rattle.vk_model.specs.Sync.Node.{Node, Act, Hosts, Waits, Signals, Runs, Depends, nodes}
-use Rattle.vk_model.specs.Sync.Seen.{Read, command_mask, available_by, makes_writes_visible, is_wait}
+use Rattle.vk_model.specs.Sync.Seen.{available_by, makes_writes_visible, is_wait}
 use Rattle.vk_model.specs.Run.Pieces.{pieces}
 use Rattle.vk_model.specs.Run.Runs.{Name, Step, Apply, RunPiece, CopyPart, Stage, Next, start, is_free, touched_by}
 use Rattle.vk_model.specs.Run.Caches.{Cell, queue_agent, view, written_back, dropped, loaded, forgotten, with_write}
@@ -69,9 +69,13 @@ last_writer past done c = option_and_then (λ x. numbered past x.0) (find (λ x.
 abbrev pub makes_last_available : Past → List Name → Node → Byte → Bool
 makes_last_available past done n c = holds (last_writer past done c) (λ w. available_by (λ b. false) (nodes past) w w.act c n)
 
--- Whether a node makes a byte visible to the reads of its queue: a dependency, or a wait (Vulkan, "Execution and Memory Dependencies" and "Semaphore Waiting").
+-- All kinds of access: TRANSFER_READ, TRANSFER_WRITE, HOST_READ, HOST_WRITE, MEMORY_READ and MEMORY_WRITE (Vulkan, "Access Types").
+abbrev pub any_access : ℕ
+any_access = 2048 + 4096 + 8192 + 16384 + 32768 + 65536
+
+-- Whether a node makes writes of a byte visible, to whichever accesses: a dependency that has some in its destination, or a wait (Vulkan, "Execution and Memory Dependencies" and "Semaphore Waiting").
 abbrev pub makes_byte_visible : Past → Node → Byte → Bool
-makes_byte_visible past n c = is_wait n.act || makes_writes_visible (λ b. false) (nodes past) (command_mask Read) c n n.act
+makes_byte_visible past n c = is_wait n.act || makes_writes_visible (λ b. false) (nodes past) any_access c n n.act
 
 -- A byte when a node happens: in the cache of its queue it is written back where the node makes it available, and then dropped where the node makes it visible (Vulkan, "Execution and Memory Dependencies", on availability and visibility operations).
 abbrev pub after_node : Past → List Name → Node → Cells → Cells
