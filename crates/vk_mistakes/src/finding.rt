@@ -7,9 +7,9 @@ use vk_json::{count_objects, first_nested};
 /// trace has one.
 const MOST_OBJECTS: u64 = 65_536;
 
-/// The most arrays of an input of which one lies in another and whose value is built: each takes up to
-/// a thousand bytes of the stack there, and a trace has nine.
-const MOST_NESTED: u64 = 16;
+/// The most arrays of an input of which one lies in another and whose value is built, as many as a trace
+/// has: each takes up to a thousand bytes of the stack there, and an object several thousand.
+const MOST_NESTED: u64 = 9;
 
 /// Where something begins in an input that is no trace.
 #[derive(Drop)]
@@ -53,7 +53,7 @@ pub fn mistake_of(alloc: Global, input: &[u8]) -> Result<Option<Mistake>, AllocE
             found: "other bytes",
         }));
     };
-    if let Some(place) = first_of_many(alloc, text)? {
+    if let Some(place) = first_object(alloc, text)? {
         return Ok(Some(Mistake {
             place: MistakePlace::Byte(place),
             expected: "an array, a string or a number",
@@ -63,7 +63,7 @@ pub fn mistake_of(alloc: Global, input: &[u8]) -> Result<Option<Mistake>, AllocE
     if let Some(place) = first_nested(alloc, text, MOST_NESTED)? {
         return Ok(Some(Mistake {
             place: MistakePlace::Byte(place),
-            expected: "at most 16 arrays nested in each other",
+            expected: "at most nine arrays nested in each other",
             found: "one more",
         }));
     }
@@ -99,13 +99,13 @@ fn mistake_in(alloc: Global, value: &Value) -> Result<Option<Mistake>, AllocErro
     }))
 }
 
-/// The byte at which the first object of a text begins, where it has too many.
-fn first_of_many(alloc: Global, text: &str) -> Result<Option<usize>, AllocError> {
+/// The byte at which the first object of a text begins, where it has too many, or one in another.
+fn first_object(alloc: Global, text: &str) -> Result<Option<usize>, AllocError> {
     if !text.as_bytes().contains(&b'{') {
         return Ok(None);
     }
     match count_objects(alloc, text)? {
-        Some(objects) if objects.count > MOST_OBJECTS => Ok(Some(objects.first)),
+        Some(objects) if objects.count > MOST_OBJECTS || objects.nested => Ok(Some(objects.first)),
         _ => Ok(None),
     }
 }
