@@ -6,3 +6,4 @@ pub mod CacheView
 pub mod Dirty
 pub mod Forgotten
 pub mod Discards
+pub mod LatestWrites

@@ -19,4 +19,5 @@ pub mod PickedRuns
 pub mod DirectRuns
 pub mod Lifetimes
 pub mod Written
+pub mod LatestWrites
 pub mod OpenPasses

@@ -4,6 +4,7 @@
 
 mod cached_runs;
 mod direct_runs;
+mod latest_writes;
 mod lifetimes;
 mod machine;
 mod open_passes;
@@ -21,6 +22,7 @@ pub use direct_runs::{
     direct_runs_are_fresh, direct_runs_are_runs, direct_runs_go_on, new_memory_holds_anything,
     pieces_stay_inside,
 };
+pub use latest_writes::dirty_is_of_the_latest;
 pub use lifetimes::{
     commands_name_live, entries_name_live, pieces_before_have_run, pieces_stay_live,
 };

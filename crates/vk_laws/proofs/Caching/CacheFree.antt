@@ -158,6 +158,21 @@ module _ (together : PiecesAreByteWrites) (paths : BeforeIsPath) (joins : Before
       same_cached all s.newer (s.at ∷ s.past) s.whole (new_ids all sound) (live_ids all sound) x.node has_x x.is_access c all x.accessed
       ∙ sym (cached_then all (new_ids all sound) (live_ids all sound) x.node x.present x.is_access c all x.accessed n cn le)) is_seen))
 
+  -- of two that write a byte, not both of the host, the earlier write was made available, also where they have one agent
+  pub made_available : (w u : Task) (c : Byte) → w.node < u.node → (wr : Writes (accesses_of all) w c) (r : Writes (accesses_of all) u c) → IsTrue (not (is_host (writer together all w c wr).node.act && is_host (writer together all u c r).node.act))
+      → Available (accesses_of all) (caching_of all) w u c
+  made_available w u c lt wr r h =
+      let x = writer together all w c wr in
+      let y = writer together all u c r in
+      let later : x.node.number < y.node.number = (let e = x.number in let f = y.number in omega arith) in
+      let s : AtPoint all y.node = at_point all y.node y.present in
+      let is_seen = write_is_seen stay hazards visibilities hosts keeps all none x.node y.node x.present y.present later x.is_access y.is_access c h (is_in_of c _ x.accessed) y.accessed in
+      let has_x = judged_has stay hazards visibilities hosts keeps all none x.node y.node x.present y.present later x.is_access y.is_access c h in
+      available_task paths joins all w u x.node y.node x.at y.at (has_task all w x.node x.at x.there) x.present y.present x.is_access y.is_access (λ b. is_cached (s.at ∷ s.past) (resource_at b)) c
+      (λ n cn le.
+      same_cached all s.newer (s.at ∷ s.past) s.whole (new_ids all sound) (live_ids all sound) x.node has_x x.is_access c all x.accessed
+      ∙ sym (cached_then all (new_ids all sound) (live_ids all sound) x.node x.present x.is_access c all x.accessed n cn le)) is_seen
+
   pub cache_free : CacheFree (accesses_of all) (caching_of all)
   cache_free = record {
     seen_read = read_after;
