@@ -3,6 +3,7 @@ pub mod NodesHappened
 pub mod LastWriters
 pub mod HostCaches
 pub mod Happening
+pub mod ByStarts
 pub mod EventsInTurn
 pub mod EntryCells
 pub mod HostEntries

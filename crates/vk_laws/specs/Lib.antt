@@ -20,4 +20,5 @@ pub mod DirectRuns
 pub mod Lifetimes
 pub mod Written
 pub mod LatestWrites
+pub mod WriteBacks
 pub mod OpenPasses

@@ -1,8 +1,8 @@
 -- What a trace's tasks access, their nodes access.
-use Rattle.std.proofs.Common.{◌≡◌, inl, inr, ⊎_elim, ℕ, ◌+◌, ◌-◌, ◌<◌, ◌≤◌, List, length, Bool, true, false, cond, ◌&&◌, IsTrue, Option, Some, None, refl, sym, subst, arith, slice_get}
+use Rattle.std.proofs.Common.{◌≡◌, inl, inr, ⊎_elim, ℕ, ◌+◌, ◌-◌, ◌<◌, ◌≤◌, List, length, Bool, true, false, cond, ◌&&◌, IsTrue, Option, Some, None, refl, subst, arith, slice_get}
 use Rattle.std.specs.Prelude.{Contains, nat_lt, nat_le, ◌==◌, option_map}
 use Rattle.std.specs.List.{find, range_with_len}
-use Rattle.std.proofs.lemmas.Bool.{eqb-true, eq-eqb, leb-true, lt-ltb, and_parts}
+use Rattle.std.proofs.lemmas.Bool.{eqb-true, leb-true, lt-ltb, and_parts}
 use Rattle.std.proofs.lemmas.Option.{slice_get_within}
 use Rattle.vk_model.specs.World.Bytes.{Byte, in_buffer, in_image, same_byte}
 use Rattle.vk_model.specs.declared.entry.Entry.{Entry}
@@ -12,7 +12,7 @@ use Rattle.vk_model.specs.Trace.Point.{Past}
 use Rattle.vk_model.specs.World.ByteWrites.{Value, ByteWrite, byte_writes}
 use Rattle.vk_model.specs.Run.Pieces.{pieces}
 use Rattle.vk_model.specs.Sync.Node.{Node, Act, Hosts, Waits, Signals, Runs, Depends, nodes}
-use Rattle.vk_model.specs.Sync.Access.{is_in, origin, origins, targets, bytes_of, host_reads, host_writes, reads_of, writes_of, reads, writes}
+use Rattle.vk_model.specs.Sync.Access.{origin, origins, targets, bytes_of, host_reads, host_writes, reads_of, writes_of, reads, writes}
 use Rattle.vk_model.specs.Laws.{PiecesAreByteWrites}
 use Rattle.vk_model.specs.Rules.Table.{fault}
 use Rattle.vk_model.specs.Sync.Before.{before}
@@ -21,7 +21,7 @@ use Rattle.vk_laws.specs.Machine.{Task, Put, Puts, Writes, Reads, Precedes, Conf
 use Rattle.vk_laws.specs.Trace.{accesses, AccessesInOrder}
 use Rattle.vk_laws.specs.Tasks.{piece_writes, host_value, task_write, task_read, task_count, node_at, by_act, accesses_of}
 use Rattle.vk_laws.proofs.Accesses.TaskNodes.{node_of}
-use Rattle.vk_model.proofs.Lists.Members.{member_passes, some_member, found, map_has, part_has, chosen_has, chosen_from, numbers_have, none_in}
+use Rattle.vk_model.proofs.Lists.Members.{found, map_has, part_has, chosen_has, chosen_from, numbers_have, none_in}
 use Rattle.vk_laws.proofs.EveryOrder.Fresh.{closed}
 use Rattle.vk_model.proofs.World.BytePlaces.{byte_same, is_in_from, is_in_of}
 

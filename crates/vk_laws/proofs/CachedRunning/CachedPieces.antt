@@ -1,5 +1,5 @@
 -- A piece that is offered runs in the machine, through the cache of its queue.
-use Rattle.std.proofs.Common.{◌≡◌, ⊎_elim, ℕ, zero, suc, List, ◌∷◌, Bool, true, false, ◌&&◌, IsTrue, Option, Some, None, refl, ap, sym, ◌∙◌, subst, arith}
+use Rattle.std.proofs.Common.{◌≡◌, ⊎_elim, ℕ, zero, suc, ◌<◌, List, ◌∷◌, length, Bool, true, false, ◌&&◌, IsTrue, Option, Some, None, refl, ap, sym, ◌∙◌, subst, arith}
 use Rattle.std.specs.Prelude.{◌==◌, option_map, if◌then◌else◌}
 use Rattle.std.proofs.lemmas.Bool.{and_parts, or_cases}
 use Rattle.vk_model.specs.declared.command.Cmd.{Cmd}
@@ -24,7 +24,7 @@ use Rattle.vk_laws.specs.Discards.{with_discards}
 use Rattle.vk_laws.specs.TraceCaches.{cached, makes_write_available, makes_visible_to, caching_of}
 use Rattle.vk_laws.specs.DefinedRuns.{piece_task}
 use Rattle.vk_laws.proofs.Caching.TraceCaches.{agent_is}
-use Rattle.vk_laws.proofs.Running.StageTasks.{Known}
+use Rattle.vk_laws.proofs.Running.StageTasks.{Known, pieces_same}
 use Rattle.vk_laws.proofs.Running.OfferedPieces.{Offered}
 use Rattle.vk_laws.proofs.Running.AtStage.{AtPoint, grows}
 use Rattle.vk_laws.proofs.Running.Runs.{may_too}
@@ -101,7 +101,14 @@ module _ {t : List Entry} (known : Known t) where
     past = s.front.past
 
     abbrev pub offered_named : IsNamed known past y
-    offered_named = record { node = o.node; command = o.command; present = o.present; number = o.number; act = o.act }
+    offered_named = record {
+      node = o.node;
+      command = o.command;
+      present = o.present;
+      number = o.number;
+      act = o.act;
+      within = subst (λ (ps : List (List ByteWrite)). y.1 < length ps) (sym (pieces_same known _ past (grows known s did i) o.node o.command o.present o.act)) o.index;
+    }
 
     at : node_at all y.0 ≡ Some o.node
     at = named_at known _ past (grows known s did i) y offered_named

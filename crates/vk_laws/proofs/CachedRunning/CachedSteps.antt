@@ -1,5 +1,5 @@
 -- Each step of a run through caches keeps tasks with which the machine has reached the bytes.
-use Rattle.std.proofs.Common.{◌≡◌, inl, inr, ⊎_elim, ℕ, ◌≤◌, List, [], ◌∷◌, length, Bool, true, false, not, IsTrue, Option, refl, ap, sym, subst, arith}
+use Rattle.std.proofs.Common.{◌≡◌, inl, inr, ⊎_elim, ℕ, ◌≤◌, List, [], ◌∷◌, length, Bool, true, false, not, IsTrue, Option, refl, ap, sym, ◌∙◌, subst, arith}
 use Rattle.std.specs.Prelude.{⊤, if◌then◌else◌}
 use Rattle.std.specs.List.{filter}
 use Rattle.std.proofs.lemmas.Bool.{ltb-true, and_parts, or_right}
@@ -11,7 +11,7 @@ use Rattle.vk_model.specs.Trace.Order.{host, order}
 use Rattle.vk_model.specs.Trace.Point.{Past}
 use Rattle.vk_model.specs.Run.Caches.{Cell, queue_agent}
 use Rattle.vk_model.specs.Run.Runs.{Name, same_name, is_done, Step, Apply, RunPiece, CopyPart, Stage, start, may_go, are_atoms, offered, entered, with_parts, past_with, Applies, Next, Allowed}
-use Rattle.vk_model.specs.Run.CachedRuns.{Cells, node_happened, after_atoms, after_host, after_next, after_step, after_nodes, Touch, WriteBack, Drop, Load, touched, CachedStep, Does, Touches, CachedStage, CachedAllowed, cached_start}
+use Rattle.vk_model.specs.Run.CachedRuns.{Cells, node_happened, happening, after_atoms, after_host, after_next, after_step, after_nodes, Touch, WriteBack, Drop, Load, touched, CachedStep, Does, Touches, CachedStage, CachedNext, CachedAllowed, cached_start}
 use Rattle.vk_model.specs.Sync.Node.{Node, Hosts, Runs, nodes}
 use Rattle.vk_model.specs.Sync.Edge.{is_host}
 use Rattle.vk_model.specs.Basics.{holds}
@@ -22,6 +22,7 @@ use Rattle.vk_laws.specs.Tasks.{node_at, accesses_of}
 use Rattle.vk_laws.specs.Discards.{with_discards}
 use Rattle.vk_laws.specs.TraceCaches.{caching_of}
 use Rattle.vk_laws.specs.DefinedRuns.{is_event, piece_task, entry_task, with_step, has_happened, MayCome, Offers, Enters}
+use Rattle.vk_laws.specs.WriteBacks.{after_nodes_by_starts}
 use Rattle.vk_laws.specs.CachedRuns.{steps_of, done_through, HasReached}
 use Rattle.vk_model.proofs.Lists.Members.{none_in, contains-cons}
 use Rattle.vk_model.proofs.Lists.Truths.{clash}
@@ -41,6 +42,7 @@ use Rattle.vk_laws.proofs.CachedRunning.HostCaches.{HostByte, HostOk, byte_withi
 use Rattle.vk_laws.proofs.CachedRunning.EntryCells.{where_touched, atoms_reached}
 use Rattle.vk_laws.proofs.CachedRunning.HostEntries.{stays, entry_done}
 use Rattle.vk_laws.proofs.CachedRunning.CachedPieces.{offered_named, piece_done, piece_host}
+use Rattle.vk_laws.proofs.CachedRunning.ByStarts.{OfTheLatest}
 use Rattle.vk_laws.proofs.CachedRunning.EventsInTurn.{Named, Whole, all_happen}
 
 module _ {t : List Entry} (known : Known t) (together : PiecesAreByteWrites) (free : HazardFree (with_discards (order t))) where
@@ -65,17 +67,25 @@ module _ {t : List Entry} (known : Known t) (together : PiecesAreByteWrites) (fr
     pub last : Last all s.done done
     pub host : HostOk known s.front.past cells
 
-  finish : (s : Stage) (did : List Task) (at : AtPoint known s did) (named : Named known s) (cells : Cells) → Whole known s at.placed named did cells → AtCached s did cells
-  finish s did at named cells whole = record {
-    at = at;
-    done = whole.done;
-    reached = whole.part.reached;
-    plain = whole.part.plain;
-    order = whole.part.order;
-    events = λ m cm kind. (λ h. ((whole.part.events m cm kind).0 h).0, λ h. (whole.part.events m cm kind).1 (h, λ c. none_in m c));
-    named = named;
-    last = whole.part.last;
-    host = whole.part.host;
+  -- what a step from one stage to another leads to, from the bytes before what happens then
+  record Stepped (s e : Stage) (did : List Task) (cells : Cells) : Type 0 where
+    there : AtCached e did (after_nodes s e cells)
+    by_starts : OfTheLatest known → after_nodes s e cells ≡ after_nodes_by_starts s e cells
+
+  finish : (s e : Stage) (did : List Task) (at : AtPoint known e did) (named : Named known e) (cells : Cells) → Whole known e at.placed named did (happening s e) cells → Stepped s e did cells
+  finish s e did at named cells whole = record {
+    there = record {
+      at = at;
+      done = whole.done;
+      reached = whole.part.reached;
+      plain = whole.part.plain;
+      order = whole.part.order;
+      events = λ m cm kind. (λ h. ((whole.part.events m cm kind).0 h).0, λ h. (whole.part.events m cm kind).1 (h, λ c. none_in m c));
+      named = named;
+      last = whole.part.last;
+      host = whole.part.host;
+    };
+    by_starts = whole.by_starts together;
   }
 
   cached_begins : (region : Byte → ℕ) → AtCached (start t) [] (cached_start t region).cells
@@ -136,8 +146,8 @@ module _ {t : List Entry} (known : Known t) (together : PiecesAreByteWrites) (fr
       further = subst (λ (l : Past). length (nodes s.front.past) ≤ length (nodes l)) (sym grown.whole) (more_nodes grown.newer s.front.past)
 
       at_entered : (atoms : List ℕ) → IsTrue (may_go s x) → IsTrue (are_atoms s.front.past x atoms) → (moved : List ℕ) → AtPoint known then_stage (entry_task s ∷ did)
-          → AtCached then_stage (entry_task s ∷ did) (after_nodes s then_stage (λ c. after_host s.front.past moved x c (after_atoms x atoms cells c)))
-      at_entered atoms may are moved at' = finish then_stage (entry_task s ∷ did) at' named' _
+          → Stepped s then_stage (entry_task s ∷ did) (λ c. after_host s.front.past moved x c (after_atoms x atoms cells c))
+      at_entered atoms may are moved at' = finish s then_stage (entry_task s ∷ did) at' named' _
           (all_happen known then_stage at'.placed named' (entry_task s ∷ did) s i.at.placed further (λ y h. h) (entry_task s ∷ i.done) (λ c. after_host s.front.past moved x c (after_atoms x atoms cells c))
           (entry_done known together s did i.at x xs left free i.done i.plain (allowed tr ca i.done cells i.reached) moved (after_atoms x atoms cells) turned_ok (atoms_reached tr ca i.done cells i.reached x atoms) (next_may (entry_task s) (Enters x xs left may)))
           (with_task known s then_stage (entry_task s) i.done i.plain (entered_happened known s did i.at x xs left))
@@ -156,8 +166,8 @@ module _ {t : List Entry} (known : Known t) (together : PiecesAreByteWrites) (fr
     -- ---- a piece runs
 
     at_ran : (y : Name) → IsTrue (is_done (offered s.front.past s.done) y) → (moved : List ℕ) → AtPoint known (ran known s y) (piece_task y ∷ did)
-        → AtCached (ran known s y) (piece_task y ∷ did) (after_nodes s (ran known s y) (after_step s (RunPiece y) moved cells))
-    at_ran y h moved at' = finish (ran known s y) (piece_task y ∷ did) at' named' _
+        → Stepped s (ran known s y) (piece_task y ∷ did) (after_step s (RunPiece y) moved cells)
+    at_ran y h moved at' = finish s (ran known s y) (piece_task y ∷ did) at' named' _
         (all_happen known (ran known s y) at'.placed named' (piece_task y ∷ did) s i.at.placed (omega arith) (λ z g. or_right (same_name z y) (is_done s.done z) g) (piece_task y ∷ i.done) (after_step s (RunPiece y) moved cells)
         (piece_done known s did i.at y o i.done cells i.reached (next_may (piece_task y) (Offers y h)))
         (with_task known s (ran known s y) (piece_task y) i.done i.plain (ran_happened known s did i.at y o))
@@ -174,8 +184,8 @@ module _ {t : List Entry} (known : Known t) (together : PiecesAreByteWrites) (fr
 
     -- ---- a part of a pass is copied
 
-    at_part : (copied : List ℕ) → AtPoint known (record s { copied = copied }) did → AtCached (record s { copied = copied }) did (after_nodes s (record s { copied = copied }) cells)
-    at_part copied at' = finish (record s { copied = copied }) did at' i.named _
+    at_part : (copied : List ℕ) → AtPoint known (record s { copied = copied }) did → Stepped s (record s { copied = copied }) did cells
+    at_part copied at' = finish s (record s { copied = copied }) did at' i.named _
         (all_happen known (record s { copied = copied }) at'.placed i.named did s i.at.placed (omega arith) (λ y h. h) i.done cells i.reached i.plain i.order i.events i.last i.host)
 
     -- ---- a queue's cache touches bytes
@@ -205,37 +215,44 @@ module _ {t : List Entry} (known : Known t) (together : PiecesAreByteWrites) (fr
     -- ---- any step
 
     applied_at : (x : Entry) (xs : List Entry) → s.left ≡ x ∷ xs → (atoms : List ℕ) (parts : ℕ) → IsTrue (may_go s x) → IsTrue (are_atoms s.front.past x atoms) → (moved : List ℕ) → AtPoint known (with_parts parts x (entered s x xs)) (entry_task s ∷ did)
-        → AtCached (with_parts parts x (entered s x xs)) (entry_task s ∷ did) (after_nodes s (with_parts parts x (entered s x xs)) (λ c. after_host s.front.past moved x c (after_atoms x atoms cells c)))
+        → Stepped s (with_parts parts x (entered s x xs)) (entry_task s ∷ did) (λ c. after_host s.front.past moved x c (after_atoms x atoms cells c))
     applied_at (entry.Pass d) xs left atoms parts may are moved at' = at_entered (entry.Pass d) xs left parts [] atoms may are moved at'
     applied_at (entry.EndPass d kept lost) xs left atoms parts may are moved at' = at_entered (entry.EndPass d kept lost) xs left 0 [] atoms may are moved at'
     applied_at x xs left atoms parts may are moved at' = at_entered x xs left s.parts s.copied atoms may are moved at'
 
-    does : (step : Step) (moved : List ℕ) (e : Stage) → Next s step e → AtCached e (with_step s step did) (after_nodes s e (after_step s step moved cells))
+    does : (step : Step) (moved : List ℕ) (e : Stage) → Next s step e → Stepped s e (with_step s step did) (after_step s step moved cells)
     does (Apply atoms parts) moved e next = go s.left refl next
       where
-        go : (left : List Entry) → s.left ≡ left → Applies s atoms parts left e → AtCached e (entry_task s ∷ did) (after_nodes s e (after_next s atoms moved left cells))
+        go : (left : List Entry) → s.left ≡ left → Applies s atoms parts left e → Stepped s e (entry_task s ∷ did) (after_next s atoms moved left cells)
         go [] left next = absurd next
         go (x ∷ xs) left next =
             let e' : Stage = with_parts parts x (entered s x xs) in
             let goes : Next s (Apply atoms parts) e' = subst (λ (l : List Entry). Applies s atoms parts l e') (sym left) (next.0, next.1, refl) in
-            subst (λ (m : Stage). AtCached m (entry_task s ∷ did) (after_nodes s m (λ c. after_host s.front.past moved x c (after_atoms x atoms cells c)))) (sym next.2)
+            subst (λ (m : Stage). Stepped s m (entry_task s ∷ did) (λ c. after_host s.front.past moved x c (after_atoms x atoms cells c))) (sym next.2)
             (applied_at x xs left atoms parts next.0 next.1 moved (all_steps known (Apply atoms parts ∷ []) s did i.at e' (e', goes, refl)))
     does (RunPiece y) moved e next =
         let e' : Stage = ran known s y in
-        subst (λ (m : Stage). AtCached m (piece_task y ∷ did) (after_nodes s m (after_step s (RunPiece y) moved cells))) (sym next.1)
+        subst (λ (m : Stage). Stepped s m (piece_task y ∷ did) (after_step s (RunPiece y) moved cells)) (sym next.1)
         (at_ran y next.0 moved (all_steps known (RunPiece y ∷ []) s did i.at e' (e', (next.0, refl), refl)))
     does (CopyPart k) moved e next =
         let e' : Stage = record s { copied = k ∷ s.copied } in
-        subst (λ (m : Stage). AtCached m did (after_nodes s m cells)) (sym next.1)
+        subst (λ (m : Stage). Stepped s m did cells) (sym next.1)
         (at_part (k ∷ s.copied) (all_steps known (CopyPart k ∷ []) s did i.at e' (e', (next.0, refl), refl)))
 
   cached_steps : (steps : List CachedStep) (s : CachedStage) (did : List Task) → AtCached s.stage did s.cells → (e : CachedStage) (run : CachedAllowed s steps e) → AtCached e.stage (done_through s steps e run did) e.cells
   cached_steps [] s did i e run = subst (λ (m : CachedStage). AtCached m.stage did m.cells) (sym run) i
   cached_steps (Does step moved ∷ steps) s did i e run = cached_steps steps run.0 (with_step s.stage step did)
-      (subst (λ (cs : Cells). AtCached run.0.stage (with_step s.stage step did) cs) (sym run.1.1) (does s.stage did s.cells i step moved run.0.stage run.1.0)) e run.2
+      (subst (λ (cs : Cells). AtCached run.0.stage (with_step s.stage step did) cs) (sym run.1.1) (does s.stage did s.cells i step moved run.0.stage run.1.0).there) e run.2
   cached_steps (Touches touch queue test ∷ steps) s did i e run = cached_steps steps run.0 did
       (subst (λ (cs : Cells). AtCached run.0.stage did cs) (sym run.1.1)
       (subst (λ (m : Stage). AtCached m did (λ c. if test c then touched touch (queue_agent queue) (s.cells c) else s.cells c)) (sym run.1.0) (at_touched s.stage did s.cells i touch queue test))) e run.2
+
+  -- and the commands that have started tell what a step writes back
+  pub steps_by_starts : (region : Byte → ℕ) (steps : List CachedStep) (s e : CachedStage) (step : Step) (moved : List ℕ) → CachedAllowed (cached_start t region) steps s → CachedNext s (Does step moved) e → OfTheLatest known
+      → e.cells ≡ after_nodes_by_starts s.stage e.stage (after_step s.stage step moved s.cells)
+  steps_by_starts region steps s e step moved run next dirty =
+      let i = cached_steps steps (cached_start t region) [] (cached_begins region) s run in
+      next.1 ∙ (does s.stage _ s.cells i step moved e.stage next.0).by_starts dirty
 
   -- so each run through caches has reached its bytes, by its tasks in their order
   pub runs_reached : (region : Byte → ℕ) (steps : List CachedStep) (e : CachedStage) (run : CachedAllowed (cached_start t region) steps e)

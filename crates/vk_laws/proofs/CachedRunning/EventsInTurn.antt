@@ -1,5 +1,5 @@
 -- All dependencies, waits and signals that happen after a step are events of the machine, one after another.
-use Rattle.std.proofs.Common.{◌≡◌, inl, inr, ⊎_elim, ℕ, ◌<◌, ◌≤◌, List, [], ◌∷◌, length, Bool, true, false, ◌&&◌, not, IsTrue, refl, ap, sym, subst, arith, reverse}
+use Rattle.std.proofs.Common.{◌≡◌, inl, inr, ⊎_elim, ℕ, ◌<◌, ◌≤◌, List, [], ◌∷◌, length, Bool, true, false, ◌&&◌, not, IsTrue, refl, ap, sym, ◌∙◌, subst, arith, reverse}
 use Rattle.std.specs.Prelude.{Contains, ◌==◌, ◌↔◌}
 use Rattle.std.specs.List.{filter, fold}
 use Rattle.std.proofs.lemmas.Bool.{eqb-true, eq-eqb, and_parts, and_from}
@@ -9,7 +9,7 @@ use Rattle.vk_model.specs.declared.entry.Entry.{Entry}
 use Rattle.vk_model.specs.Trace.Point.{Past}
 use Rattle.vk_model.specs.Trace.Order.{order}
 use Rattle.vk_model.specs.Run.Runs.{Name, is_done, Stage}
-use Rattle.vk_model.specs.Run.CachedRuns.{Cells, is_synchronization, after_node, node_happened, happening, after_nodes}
+use Rattle.vk_model.specs.Run.CachedRuns.{Cells, is_synchronization, after_node, node_happened, happening}
 use Rattle.vk_model.specs.Sync.Node.{Node, nodes}
 use Rattle.vk_model.specs.Sync.Before.{IsNumbered}
 use Rattle.vk_laws.specs.Machine.{IsIn, Task, TraceAccesses}
@@ -17,6 +17,8 @@ use Rattle.vk_laws.specs.Caches.{Reached}
 use Rattle.vk_laws.specs.Discards.{with_discards}
 use Rattle.vk_laws.specs.TraceCaches.{caching_of}
 use Rattle.vk_laws.specs.DefinedRuns.{is_event}
+use Rattle.vk_laws.specs.WriteBacks.{after_node_by_starts}
+use Rattle.vk_model.specs.Laws.{PiecesAreByteWrites}
 use Rattle.vk_model.proofs.Lists.Members.{contains-cons, contains-head, contains-tail, filtered, filter_has}
 use Rattle.vk_model.proofs.Lists.Pairs.{Each, Pairs, each_has, each_from, pairs_append, pairs_filter}
 use Rattle.vk_model.proofs.Lists.Truths.{clash, contradicted}
@@ -27,6 +29,7 @@ use Rattle.vk_laws.proofs.CachedRunning.NodesHappened.{event_task, event_at, eve
 use Rattle.vk_laws.proofs.CachedRunning.LastWriters.{Last, last_other, IsNamed}
 use Rattle.vk_laws.proofs.CachedRunning.HostCaches.{HostOk}
 use Rattle.vk_laws.proofs.CachedRunning.Happening.{no_run, event_done, host_after}
+use Rattle.vk_laws.proofs.CachedRunning.ByStarts.{OfTheLatest, node_by_starts}
 
 -- ---- nodes in their order
 
@@ -119,14 +122,21 @@ module _ {t : List Entry} (known : Known t) where
               (λ more. absent more) (contains-cons n xs m c),
         ))
 
-    -- where all of them have come
-    pub record Whole (cells : Cells) : Type 0 where
+    -- where some come from these bytes on, and no more is to come; which commands have started tells what is written back
+    pub record Whole (xs : List Node) (cells : Cells) : Type 0 where
       pub done : List Task
-      pub part : Part [] done cells
+      pub part : Part [] done (fold (λ cs n. after_node past e.done n cs) cells xs)
+      pub by_starts : PiecesAreByteWrites → OfTheLatest known → fold (λ cs n. after_node past e.done n cs) cells xs ≡ fold (λ cs n. after_node_by_starts past e.done n cs) cells xs
 
-    all_parts : (xs : List Node) (done : List Task) (cells : Cells) → Each Due xs → Pairs Rises xs → Part xs done cells → Whole (fold (λ cs n. after_node past e.done n cs) cells xs)
-    all_parts [] done cells dues rises i = record { done = done; part = i }
-    all_parts (n ∷ xs) done cells dues rises i = all_parts xs (event_task n ∷ done) (after_node past e.done n cells) dues.1 rises.1 (next_part n xs done cells dues.0 rises.0 i)
+    all_parts : (xs : List Node) (done : List Task) (cells : Cells) → Each Due xs → Pairs Rises xs → Part xs done cells → Whole xs cells
+    all_parts [] done cells dues rises i = record { done = done; part = i; by_starts = λ together dirty. refl }
+    all_parts (n ∷ xs) done cells dues rises i =
+        let rest = all_parts xs (event_task n ∷ done) (after_node past e.done n cells) dues.1 rises.1 (next_part n xs done cells dues.0 rises.0 i) in record {
+          done = rest.done;
+          part = rest.part;
+          by_starts = λ together dirty. rest.by_starts together dirty
+              ∙ ap (λ (cs : Cells). fold (λ cs n. after_node_by_starts past e.done n cs) cs xs) (node_by_starts known together e p named n dues.0.present dues.0.kind done cells i.plain i.last i.reached dirty);
+        }
 
     -- from tasks that have the events of an earlier stage
     module _ (s : Stage) (q : Placed known.keeps t s) (le : length (nodes s.front.past) ≤ length (nodes past)) (more : (y : Name) → IsTrue (is_done s.done y) → IsTrue (is_done e.done y)) where
@@ -158,7 +168,7 @@ module _ {t : List Entry} (known : Known t) where
           filter_has test (reverse (nodes past)) n (Contains-permutation (nodes past) (reverse (nodes past)) n (IsPermutation-reverse (nodes past)) old)
           (and_from _ _ (and_from _ _ kind h) (ap not not_yet))
 
-      pub all_happen : (done : List Task) (cells : Cells) → Reached tr (caching_of all) done cells → Plain known e done → filter (λ u. not (is_event all u)) done ≡ did → Events known s done → Last all e.done done → HostOk known past cells → Whole (after_nodes s e cells)
+      pub all_happen : (done : List Task) (cells : Cells) → Reached tr (caching_of all) done cells → Plain known e done → filter (λ u. not (is_event all u)) done ≡ did → Events known s done → Last all e.done done → HostOk known past cells → Whole (happening s e) cells
       all_happen done cells reached plain order events last host =
           all_parts (happening s e) done cells (each_from Due (happening s e) (λ n c. (parts_of n c).0)) (pairs_filter Rises test (reverse (nodes past)) (rising (nodes past) (numbered past)))
           (record {

@@ -1,5 +1,5 @@
 -- The piece that wrote a byte last, by the definitions and in the machine.
-use Rattle.std.proofs.Common.{◌≡◌, ℕ, List, [], ◌∷◌, Bool, true, false, cond, ◌&&◌, Option, Some, None, refl, ap, sym, ◌∙◌, subst, slice_get}
+use Rattle.std.proofs.Common.{◌≡◌, ℕ, ◌<◌, List, [], ◌∷◌, length, Bool, true, false, cond, ◌&&◌, Option, Some, None, refl, ap, sym, ◌∙◌, subst, slice_get}
 use Rattle.std.specs.Prelude.{Contains, ◌==◌, option_map, option_and_then}
 use Rattle.std.specs.List.{find}
 use Rattle.std.proofs.lemmas.Bool.{and_right}
@@ -35,7 +35,7 @@ piece_list None = refl
 piece_list (Some ms) = refl
 
 -- the byte writes of the piece of a node
-piece_is : (past : Past) (y : Name) (n : Node) (x : Cmd) → node_at past y.0 ≡ Some n → n.act ≡ Runs x → named_piece past y ≡ piece_writes (slice_get (pieces past x) y.1)
+pub piece_is : (past : Past) (y : Name) (n : Node) (x : Cmd) → node_at past y.0 ≡ Some n → n.act ≡ Runs x → named_piece past y ≡ piece_writes (slice_get (pieces past x) y.1)
 piece_is past y n x at act =
     ap (λ (o : Option Node). elim (option_and_then (λ n. piece_of past n.act y.1) o) [ None ↦ [] | Some ms ↦ ms ]) at
     ∙ ap (λ (a : Act). elim (piece_of past a y.1) [ None ↦ [] | Some ms ↦ ms ]) act
@@ -104,6 +104,7 @@ module _ {t : List Entry} (known : Known t) where
     pub present : Contains (nodes past) node
     pub number : node.number ≡ y.0
     pub act : node.act ≡ Runs command
+    pub within : y.1 < length (pieces whole command)
 
   module _ (P : Point → Type 0) (past : Past) (g : Grows P past whole) (y : Name) (i : IsNamed past y) where
     pub named_at : node_at whole y.0 ≡ Some i.node
@@ -125,6 +126,7 @@ module _ {t : List Entry} (known : Known t) where
     present = subst (λ (l : Past). Contains (nodes l) i.node) (sym g.whole) (has_more known.keeps g.newer past i.node i.present);
     number = i.number;
     act = i.act;
+    within = i.within;
   }
 
   -- so the definitions' last writer is the machine's
