@@ -6,5 +6,6 @@ pub mod Caching
 pub mod Running
 pub mod CachedRunning
 pub mod DirectRuns
+pub mod GoingOn
 pub mod Living
 pub mod Forms

@@ -21,4 +21,5 @@ pub mod Lifetimes
 pub mod Written
 pub mod LatestWrites
 pub mod WriteBacks
+pub mod CacheRuns
 pub mod OpenPasses

@@ -2,6 +2,7 @@
 //! stand the tests that two crates above need, of which resource bytes are written.
 #![tactic(auto)]
 
+mod cache_runs;
 mod cached_runs;
 mod direct_runs;
 mod latest_writes;
@@ -15,6 +16,7 @@ mod trace;
 mod trace_runs;
 mod written;
 
+pub use cache_runs::{cached_runs_go_on, cached_runs_mean_the_trace, new_cells_hold_anything};
 pub use cached_runs::{
     cached_premises_can_be_met, cached_runs_are_fresh, cached_runs_are_reached, cached_runs_end,
 };

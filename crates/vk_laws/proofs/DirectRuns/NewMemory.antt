@@ -219,7 +219,7 @@ module _ {t : List Entry} (known : Known t) (together : PiecesAreByteWrites) (ne
   abbrev other : CachedStage → CachedStage
   other s = record s { cells = with_new new values s.cells }
 
-  run_apart : (steps : List CachedStep) (s : CachedStage) (did : List Task) → AtPoint known s.stage did → (e : CachedStage) → CachedAllowed s steps e → IsOld e.stage → CachedAllowed (other s) (apart new values steps) (other e)
+  pub run_apart : (steps : List CachedStep) (s : CachedStage) (did : List Task) → AtPoint known s.stage did → (e : CachedStage) → CachedAllowed s steps e → IsOld e.stage → CachedAllowed (other s) (apart new values steps) (other e)
   run_apart [] s did i e run old = ap other run
   run_apart (Does step moved ∷ steps) s did i e run old = (
     other run.0,
@@ -237,6 +237,15 @@ module _ {t : List Entry} (known : Known t) (together : PiecesAreByteWrites) (ne
     run_apart steps run.0 did (subst (λ (m : Stage). AtPoint known m did) (sym run.1.0) i) e run.2 old,
   )
 
+-- where it begins
+pub other_start : (t : List Entry) (new : Byte → Bool) (values first : Byte → ℕ)
+    → ◌≡◌ {A = CachedStage} (record { stage = start t; cells = with_new new values (cached_start t first).cells }) (cached_start t (λ c. if new c then values c else first c))
+other_start t new values first = ap (λ (cells : Cells). record { stage = start t; cells = cells }) (λ i c. at c (new c) i)
+  where
+    at : (c : Byte) (b : Bool) → ◌≡◌ {A = Cell} (if b then record { region = values c; held = λ a. None } else record { region = first c; held = λ a. None }) (record { region = if b then values c else first c; held = λ a. None })
+    at c true = refl
+    at c false = refl
+
 -- ---- so a run on memory directly leads to other memory, too
 
 pub new_memory : {t : List Entry} (known : Known t) (together : PiecesAreByteWrites) (steps : List Step) (s : Stage) (m n : HostMemory) → DirectRun t steps s m
@@ -244,7 +253,7 @@ pub new_memory : {t : List Entry} (known : Known t) (together : PiecesAreByteWri
 new_memory {t} known together steps s m n r same empty = record {
   first = λ c. if new c then n.region c else r.first c;
   cached_steps = apart new n.region r.cached_steps;
-  run = subst (λ (b : CachedStage). CachedAllowed b (apart new n.region r.cached_steps) (record { stage = s; cells = cells_of n })) begin
+  run = subst (λ (b : CachedStage). CachedAllowed b (apart new n.region r.cached_steps) (record { stage = s; cells = cells_of n })) (other_start t new n.region r.first)
       (subst (λ (cells : Cells). CachedAllowed (record { stage = start t; cells = with_new new n.region (cached_start t r.first).cells }) (apart new n.region r.cached_steps) (record { stage = s; cells = cells })) end
       (run_apart known together new n.region r.cached_steps (cached_start t r.first) [] (begins known) (record { stage = s; cells = cells_of m }) r.run (λ c h. ap not h)));
   same_steps = apart_steps new n.region r.cached_steps ∙ r.same_steps;
@@ -252,13 +261,6 @@ new_memory {t} known together steps s m n r same empty = record {
   where
     new : Byte → Bool
     new c = not (is_made s.front.past c)
-
-    begin : ◌≡◌ {A = CachedStage} (record { stage = start t; cells = with_new new n.region (cached_start t r.first).cells }) (cached_start t (λ c. if new c then n.region c else r.first c))
-    begin = ap (λ (cells : Cells). record { stage = start t; cells = cells }) (λ i c. at c (new c) i)
-      where
-        at : (c : Byte) (b : Bool) → ◌≡◌ {A = Cell} (if b then record { region = n.region c; held = λ a. None } else record { region = r.first c; held = λ a. None }) (record { region = if b then n.region c else r.first c; held = λ a. None })
-        at c true = refl
-        at c false = refl
 
     end : with_new new n.region (cells_of m) ≡ cells_of n
     end = λ i c. at c (is_made s.front.past c) refl i

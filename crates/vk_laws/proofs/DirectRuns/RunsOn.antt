@@ -39,7 +39,7 @@ joined (Does step moved ∷ xs) ys s mid e first second done =
 joined (Touches touch queue test ∷ xs) ys s mid e first second done =
     let r = joined xs ys first.0 mid e first.2 second done in record { run = (first.0, first.1, r.run); tasks = r.tasks }
 
-steps_joined : (xs ys : List CachedStep) → steps_of (xs ++ ys) ≡ steps_of xs ++ steps_of ys
+pub steps_joined : (xs ys : List CachedStep) → steps_of (xs ++ ys) ≡ steps_of xs ++ steps_of ys
 steps_joined [] ys = refl
 steps_joined (Does step moved ∷ xs) ys = ap (λ (l : List Step). step ∷ l) (steps_joined xs ys)
 steps_joined (Touches touch queue test ∷ xs) ys = steps_joined xs ys

@@ -12,9 +12,9 @@ use Rattle.vk_model.specs.Trace.Point.{Past}
 use Rattle.vk_model.specs.Trace.Order.{order}
 use Rattle.vk_model.specs.Sync.Node.{Node, nodes}
 use Rattle.vk_model.specs.Sync.Access.{is_in, bytes_of}
-use Rattle.vk_model.specs.Run.Caches.{Dirty, view}
+use Rattle.vk_model.specs.Run.Caches.{Dirty, Cell, queue_agent, view}
 use Rattle.vk_model.specs.Run.Runs.{Name, is_done, offered, Step, Stage, start, Allowed}
-use Rattle.vk_model.specs.Run.CachedRuns.{named_piece, write_to}
+use Rattle.vk_model.specs.Run.CachedRuns.{numbered, named_piece, write_to}
 use Rattle.vk_laws.specs.Machine.{Task, Put, Puts, Reads, newest, latest}
 use Rattle.vk_laws.specs.Tasks.{task_read, by_act}
 use Rattle.vk_laws.specs.TraceBytes.{value_before}
@@ -30,7 +30,8 @@ use Rattle.vk_laws.proofs.Running.StageTasks.{Known}
 use Rattle.vk_laws.proofs.Running.OfferedPieces.{Offered, offered_of}
 use Rattle.vk_laws.proofs.Running.AtStage.{AtPoint, begins, grows, here_at}
 use Rattle.vk_laws.proofs.Running.StageSteps.{all_steps}
-use Rattle.vk_laws.proofs.CachedRunning.CachedPieces.{agent_is_queue, its_write}
+use Rattle.vk_laws.proofs.CachedRunning.CachedPieces.{offered_named, agent_is_queue, its_write}
+use Rattle.vk_laws.proofs.CachedRunning.LastWriters.{named_at_past}
 use Rattle.vk_model.proofs.World.BytePlaces.{byte_itself}
 
 -- ---- what an entry reads
@@ -80,6 +81,12 @@ module _ {t : List Entry} (known : Known t) (steps : List Step) (s : Stage) (run
     pub written_last : (w : ByteWrite) → write_to c (named_piece s.front.past x) ≡ Some w → (done : List Task) → latest (with_discards all) c (piece_task x ∷ done) ≡ Some (piece_task x)
     written_last w is done =
         ap (λ (p : Option Put). newest p (piece_task x) (latest (with_discards all) c done)) (its_write known s did at x offer c ∙ ap (λ (o : Option ByteWrite). option_map (λ m. Puts m.source) o) is)
+
+    pub seen_by_queue : (n : Node) (cell : Cell) (v : ℕ) → numbered s.front.past x.0 ≡ Some n → view ((caching_of all).agent (piece_task x)) cell ≡ v → view (queue_agent n.point.queue) cell ≡ v
+    seen_by_queue n cell v is seen =
+        let one : Some offer.node ≡ Some n = sym (named_at_past known _ s.front.past (grows known s did at) x (offered_named known s did at x offer)) ∙ is in
+        let same : offer.node ≡ n = cc in
+        subst (λ (a : ℕ). view a cell ≡ v) (agent_is_queue known s did at x offer ∙ ap (λ (m : Node). queue_agent m.point.queue) same) seen
 
     pub seen_in_memory : (m : HostMemory) (v : ℕ) → view ((caching_of all).agent (piece_task x)) (cells_of m c) ≡ v → m.region c ≡ v
     seen_in_memory m v is = subst (λ (a : ℕ). view a (cells_of m c) ≡ v) (agent_is_queue known s did at x offer) is
