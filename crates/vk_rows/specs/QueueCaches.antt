@@ -68,9 +68,9 @@ with_region v cell = record cell { region = v }
 pub record QueueCaches : Type 0 where
   -- A fill is dirty in its queue's cache, and memory is as it was.
   pub first_fill : Leads two_fills (entries (0 ∷ 1 ∷ 2 ∷ []) ++ piece 3 ∷ []) (λ s. (in_memory 1 s ≡ 205) × (in_cache 1 1 s ≡ Some (Dirty 1)))
-  -- When the second has run as well, the barrier behind both happens and writes both back.
-  pub second_fill : Leads two_fills (entries (0 ∷ 1 ∷ 2 ∷ []) ++ piece 3 ∷ piece 4 ∷ []) (λ s. (in_memory 1 s ≡ 1) × (in_cache 1 1 s ≡ Some (Clean 1)))
-  pub other_order : Leads two_fills (entries (0 ∷ 1 ∷ 2 ∷ []) ++ piece 4 ∷ piece 3 ∷ []) (λ s. (in_memory 1 s ≡ 1) × (in_cache 1 1 s ≡ Some (Clean 1)))
+  -- When the second has run as well, the barrier behind both happens: it writes both back, and drops them, though it makes them visible to the host alone.
+  pub second_fill : Leads two_fills (entries (0 ∷ 1 ∷ 2 ∷ []) ++ piece 3 ∷ piece 4 ∷ []) (λ s. (in_memory 1 s ≡ 1) × (in_cache 1 1 s ≡ None))
+  pub other_order : Leads two_fills (entries (0 ∷ 1 ∷ 2 ∷ []) ++ piece 4 ∷ piece 3 ∷ []) (λ s. (in_memory 1 s ≡ 1) × (in_cache 1 1 s ≡ None))
   -- A barrier writes back what it makes available, and then drops it where it makes it visible.
   pub written_then_dropped : Leads fill_and_barrier (entries (0 ∷ 1 ∷ []) ++ piece 2 ∷ []) (λ s. (in_memory 1 s ≡ 1) × (in_cache 1 1 s ≡ None))
   -- Queue 2 holds an old copy when the fill runs; the batch's wait drops it, so the copy reads the fill.
