@@ -7,3 +7,4 @@ pub mod Dirty
 pub mod Forgotten
 pub mod Discards
 pub mod LatestWrites
+pub mod CleanPieces

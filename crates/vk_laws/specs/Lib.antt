@@ -22,4 +22,5 @@ pub mod Written
 pub mod LatestWrites
 pub mod WriteBacks
 pub mod CacheRuns
+pub mod CleanPieces
 pub mod OpenPasses

@@ -24,7 +24,7 @@ pub use direct_runs::{
     direct_runs_are_fresh, direct_runs_are_runs, direct_runs_go_on, new_memory_holds_anything,
     pieces_stay_inside,
 };
-pub use latest_writes::{dirty_is_of_the_latest, nodes_go_by_starts};
+pub use latest_writes::{dirty_is_of_the_latest, nodes_go_by_starts, pieces_find_nothing_dirty};
 pub use lifetimes::{
     commands_name_live, entries_name_live, pieces_before_have_run, pieces_stay_live,
 };

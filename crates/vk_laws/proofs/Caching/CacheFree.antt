@@ -123,40 +123,29 @@ module _ (together : PiecesAreByteWrites) (paths : BeforeIsPath) (joins : Before
   by_agents true false f g = g refl
   by_agents false b f g = g refl
 
-  read_after : (w u : Task) (c : Byte) → w.node < u.node → Writes (accesses_of all) w c → Reads (accesses_of all) u c → ((caching_of all).agent w ≡ (caching_of all).agent u) ⊎ Seen (accesses_of all) (caching_of all) w u c
-  read_after w u c lt wr r =
+  -- of two of which the earlier writes a byte and the later reads it, not both of the host, the write was seen, also where they have one agent
+  pub made_seen : (w u : Task) (c : Byte) → w.node < u.node → (wr : Writes (accesses_of all) w c) (r : Reads (accesses_of all) u c) → IsTrue (not (is_host (writer together all w c wr).node.act && is_host (reader together all u c r).node.act))
+      → Seen (accesses_of all) (caching_of all) w u c
+  made_seen w u c lt wr r h =
       let x = writer together all w c wr in
       let y = reader together all u c r in
       let later : x.node.number < y.node.number = (let e = x.number in let f = y.number in omega arith) in
-      by_agents (is_host x.node.act) (is_host y.node.act)
-      (λ h k. inl (same_agent paths joins all w u x.node y.node x.at y.at h k))
-      (λ h.
       let s : AtPoint all y.node = at_point all y.node y.present in
       let is_seen = read_is_seen stay hazards visibilities hosts keeps all none x.node y.node x.present y.present later x.is_access y.is_access c h (is_in_of c _ x.accessed) y.accessed in
       let has_x = judged_has stay hazards visibilities hosts keeps all none x.node y.node x.present y.present later x.is_access y.is_access c h in
-      inr (seen_task paths joins all w u x.node y.node x.at y.at (has_task all w x.node x.at x.there) x.present y.present x.is_access y.is_access (λ b. is_cached (s.at ∷ s.past) (resource_at b)) c
+      seen_task paths joins all w u x.node y.node x.at y.at (has_task all w x.node x.at x.there) x.present y.present x.is_access y.is_access (λ b. is_cached (s.at ∷ s.past) (resource_at b)) c
       (λ n cn le.
       same_cached all s.newer (s.at ∷ s.past) s.whole (new_ids all sound) (live_ids all sound) x.node has_x x.is_access c all x.accessed
       ∙ sym (cached_then all (new_ids all sound) (live_ids all sound) x.node x.present x.is_access c all x.accessed n cn le))
       (submits_there all ordered)
       (λ n cn le. made_then all (new_ids all sound) (live_ids all sound) x.node x.present x.is_access c all x.accessed n cn le)
-      (λ host. record { by = x.node; present = x.present; host = host; wrote = is_in_of c _ x.accessed; order = inl refl }) is_seen))
+      (λ host. record { by = x.node; present = x.present; host = host; wrote = is_in_of c _ x.accessed; order = inl refl }) is_seen
 
-  written_after : (w u : Task) (c : Byte) → w.node < u.node → Writes (accesses_of all) w c → Writes (accesses_of all) u c → ((caching_of all).agent w ≡ (caching_of all).agent u) ⊎ Available (accesses_of all) (caching_of all) w u c
-  written_after w u c lt wr r =
+  read_after : (w u : Task) (c : Byte) → w.node < u.node → Writes (accesses_of all) w c → Reads (accesses_of all) u c → ((caching_of all).agent w ≡ (caching_of all).agent u) ⊎ Seen (accesses_of all) (caching_of all) w u c
+  read_after w u c lt wr r =
       let x = writer together all w c wr in
-      let y = writer together all u c r in
-      let later : x.node.number < y.node.number = (let e = x.number in let f = y.number in omega arith) in
-      by_agents (is_host x.node.act) (is_host y.node.act)
-      (λ h k. inl (same_agent paths joins all w u x.node y.node x.at y.at h k))
-      (λ h.
-      let s : AtPoint all y.node = at_point all y.node y.present in
-      let is_seen = write_is_seen stay hazards visibilities hosts keeps all none x.node y.node x.present y.present later x.is_access y.is_access c h (is_in_of c _ x.accessed) y.accessed in
-      let has_x = judged_has stay hazards visibilities hosts keeps all none x.node y.node x.present y.present later x.is_access y.is_access c h in
-      inr (available_task paths joins all w u x.node y.node x.at y.at (has_task all w x.node x.at x.there) x.present y.present x.is_access y.is_access (λ b. is_cached (s.at ∷ s.past) (resource_at b)) c
-      (λ n cn le.
-      same_cached all s.newer (s.at ∷ s.past) s.whole (new_ids all sound) (live_ids all sound) x.node has_x x.is_access c all x.accessed
-      ∙ sym (cached_then all (new_ids all sound) (live_ids all sound) x.node x.present x.is_access c all x.accessed n cn le)) is_seen))
+      let y = reader together all u c r in
+      by_agents (is_host x.node.act) (is_host y.node.act) (λ h k. inl (same_agent paths joins all w u x.node y.node x.at y.at h k)) (λ h. inr (made_seen w u c lt wr r h))
 
   -- of two that write a byte, not both of the host, the earlier write was made available, also where they have one agent
   pub made_available : (w u : Task) (c : Byte) → w.node < u.node → (wr : Writes (accesses_of all) w c) (r : Writes (accesses_of all) u c) → IsTrue (not (is_host (writer together all w c wr).node.act && is_host (writer together all u c r).node.act))
@@ -172,6 +161,12 @@ module _ (together : PiecesAreByteWrites) (paths : BeforeIsPath) (joins : Before
       (λ n cn le.
       same_cached all s.newer (s.at ∷ s.past) s.whole (new_ids all sound) (live_ids all sound) x.node has_x x.is_access c all x.accessed
       ∙ sym (cached_then all (new_ids all sound) (live_ids all sound) x.node x.present x.is_access c all x.accessed n cn le)) is_seen
+
+  written_after : (w u : Task) (c : Byte) → w.node < u.node → Writes (accesses_of all) w c → Writes (accesses_of all) u c → ((caching_of all).agent w ≡ (caching_of all).agent u) ⊎ Available (accesses_of all) (caching_of all) w u c
+  written_after w u c lt wr r =
+      let x = writer together all w c wr in
+      let y = writer together all u c r in
+      by_agents (is_host x.node.act) (is_host y.node.act) (λ h k. inl (same_agent paths joins all w u x.node y.node x.at y.at h k)) (λ h. inr (made_available w u c lt wr r h))
 
   pub cache_free : CacheFree (accesses_of all) (caching_of all)
   cache_free = record {

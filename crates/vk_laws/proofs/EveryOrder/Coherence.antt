@@ -32,7 +32,7 @@ module _ (tr : TraceAccesses) (ca : Caching) where
 
 module _ (tr : TraceAccesses) (ca : Caching) (free : HazardFree tr) (cache : CacheFree tr ca) where
   -- the last write is earlier than a task that may come next and accesses the byte
-  is_earlier : (done : List Task) (t w : Task) (c : Byte) → IsAllowed tr done → MayRun tr done t → latest tr c done ≡ Some w → Reads tr t c ⊎ Writes tr t c → (w.node < t.node) × Writes tr w c
+  pub is_earlier : (done : List Task) (t w : Task) (c : Byte) → IsAllowed tr done → MayRun tr done t → latest tr c done ≡ Some w → Reads tr t c ⊎ Writes tr t c → (w.node < t.node) × Writes tr w c
   is_earlier done t w c ok may e access =
       let r = latest_in tr done c w e in
       ⊎_elim (λ lt. (lt, r.1))
@@ -42,10 +42,10 @@ module _ (tr : TraceAccesses) (ca : Caching) (free : HazardFree tr) (cache : Cac
       (eq-or-lt_of_le le)))
       (cases_lt (w.node) (t.node))
 
-  first_done : (done : List Task) (p q : Task) → IsAllowed tr done → (p ≡ q) ⊎ Precedes tr p q → IsIn q done → IsIn p done
+  pub first_done : (done : List Task) (p q : Task) → IsAllowed tr done → (p ≡ q) ⊎ Precedes tr p q → IsIn q done → IsIn p done
   first_done done p q ok order h = ⊎_elim (λ same. subst (λ (u : Task). IsIn u done) (sym same) h) (λ before. closed tr done ok q p h before) order
 
-  visible_for : (done : List Task) (t : Task) (c : Byte) → IsAllowed tr done → MayRun tr done t → Reads tr t c → MadeVisible tr ca done c (latest tr c done) (ca.agent t)
+  pub visible_for : (done : List Task) (t : Task) (c : Byte) → IsAllowed tr done → MayRun tr done t → Reads tr t c → MadeVisible tr ca done c (latest tr c done) (ca.agent t)
   visible_for done t c ok may reads = go (latest tr c done) refl
     where
       go : (l : Option Task) → latest tr c done ≡ l → MadeVisible tr ca done c l (ca.agent t)
