@@ -1,6 +1,6 @@
 #!/usr/bin/env python3
-"""Tests the tools for people, tools/names.py, tools/smallest.py, tools/each and tools/zorthewin, and the examples of
-docs/FORMAT.md.
+"""Tests the tools for people, tools/names.py, tools/smallest.py, tools/each, tools/picture.py and tools/zorthewin,
+and the examples of docs/FORMAT.md.
 
     PROGRAM=FILE EXPLAIN=FILE tests/people.py [WORD]
 
@@ -17,11 +17,12 @@ from people_format import format_tests
 from people_mistakes import mistake_tests
 from people_module import module_tests
 from people_names import both_ways_tests, explanation_tests, form_tests, line_tests, place_tests
+from people_picture import picture_tests
 from people_smallest import smallest_tests
 
 PARTS = (
     *(both_ways_tests, place_tests, form_tests, explanation_tests, line_tests),
-    *(mistake_tests, smallest_tests, each_tests, format_tests, module_tests),
+    *(mistake_tests, smallest_tests, each_tests, format_tests, module_tests, picture_tests),
 )
 
 
