@@ -103,7 +103,7 @@ def no_traces():
         except ValueError:
             continue
         said = path.with_suffix('.explained').read_text()
-        yield path.name, text, re.search(r'[(]member ([/0-9]*)[)]', said)[1]
+        yield path.name, text, re.search(r'[(]member ([/0-9]*)[,)]', said)[1]
     for text, member in NO_TRACES:
         yield text, text, member
 

@@ -73,11 +73,18 @@ fn mistake_line(
     if let MistakePlace::Member(path) = &mistake.place {
         line.push_str(" (member ")?;
         push_path(&mut line, path.as_slice())?;
+        if let Some(name) = mistake.name {
+            write!(line, ", {name}")?;
+        }
         line.push_str(")")?;
     }
     let expected = mistake.expected;
-    let there = mistake.found;
+    let there = mistake.found.as_str();
     write!(line, ": expected {expected}; found {there}\n")?;
+    if let Some(form) = &mistake.form {
+        let form = form.as_str();
+        write!(line, "  the form is {form}\n")?;
+    }
     Ok(line)
 }
 
@@ -98,11 +105,19 @@ fn mistake_members(
             push_path(&mut members, path.as_slice())?;
             members.push_str("\"")?;
         }
+        if let Some(name) = mistake.name {
+            write!(members, ",\"name\":\"{name}\"")?;
+        }
+        if let Some(form) = &mistake.form {
+            members.push_str(",\"form\":")?;
+            let form = String::from_str(alloc, form.as_str())?;
+            push_quoted(alloc, &mut members, form)?;
+        }
         members.push_str(",\"expected\":")?;
         let expected = String::from_str(alloc, mistake.expected)?;
         push_quoted(alloc, &mut members, expected)?;
         members.push_str(",\"found\":")?;
-        let there = String::from_str(alloc, mistake.found)?;
+        let there = String::from_str(alloc, mistake.found.as_str())?;
         push_quoted(alloc, &mut members, there)?;
     }
     members.push_str("}\n")?;

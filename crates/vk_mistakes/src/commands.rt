@@ -1,6 +1,7 @@
 use crate::forms::{Plain, expected_of, in_plain};
-use crate::mistakes::{Search, another, inside, missing, unlike};
+use crate::mistakes::{Search, inside, missing, shaped, unlike};
 use crate::rows::{Row, ended, in_row, in_rows};
+use crate::shapes::{Shape, command_shape};
 use serde_json::Value;
 use std::alloc::Global;
 
@@ -83,20 +84,29 @@ pub fn command(alloc: Global, value: &Value) -> Search {
     let Some(first) = values.first() else {
         return missing(alloc, COMMAND_WORDS);
     };
-    let members = match first.as_str() {
-        Some(word) => members_of(word),
+    let known = match first.as_str() {
+        Some(word) => known_of(word),
         None => None,
     };
-    let Some(members) = members else {
-        return inside(another(alloc, COMMAND_WORDS, first), 0);
+    let Some((members, shape)) = known else {
+        return inside(unlike(alloc, COMMAND_WORDS, first), 0);
     };
     for (index, form) in members.iter().enumerate() {
-        let found = member_at(alloc, values, index.saturating_add(1), *form)?;
+        let found = member_at(alloc, values, index.saturating_add(1), *form);
+        let found = shaped(found, shape, index)?;
         if found.is_some() {
             return Ok(found);
         }
     }
-    ended(alloc, values, members.len().saturating_add(1))
+    ended(alloc, values, members.len().saturating_add(1), shape)
+}
+
+/// The members after a word, and their names.
+fn known_of(word: &str) -> Option<(&'static [Member], Shape)> {
+    match (members_of(word), command_shape(word)) {
+        (Some(members), Some(shape)) => Some((members, shape)),
+        _ => None,
+    }
 }
 
 fn member_at(alloc: Global, values: &[Value], number: usize, form: Member) -> Search {

@@ -1,7 +1,8 @@
 use crate::commands::command;
 use crate::forms::{Plain, expected_of, in_plain};
-use crate::mistakes::{Misfit, Search, another, inside, missing, unlike};
+use crate::mistakes::{Misfit, Search, inside, missing, shaped, unlike};
 use crate::rows::{Row, ended, in_plains, in_rows};
+use crate::shapes::{BATCH, Shape, entry_shape, place_shape};
 use serde_json::Value;
 use std::alloc::Global;
 
@@ -123,20 +124,29 @@ fn entry(alloc: Global, value: &Value) -> Search {
     let Some(first) = values.first() else {
         return missing(alloc, ENTRY_WORDS);
     };
-    let members = match first.as_str() {
-        Some(word) => members_of(word),
+    let known = match first.as_str() {
+        Some(word) => known_of(word),
         None => None,
     };
-    let Some(members) = members else {
-        return inside(another(alloc, ENTRY_WORDS, first), 0);
+    let Some((members, shape)) = known else {
+        return inside(unlike(alloc, ENTRY_WORDS, first), 0);
     };
     for (index, form) in members.iter().enumerate() {
-        let found = member_at(alloc, values, index.saturating_add(1), *form)?;
+        let found = member_at(alloc, values, index.saturating_add(1), *form);
+        let found = shaped(found, shape, index)?;
         if found.is_some() {
             return Ok(found);
         }
     }
-    ended(alloc, values, members.len().saturating_add(1))
+    ended(alloc, values, members.len().saturating_add(1), shape)
+}
+
+/// The members after a word, and their names.
+fn known_of(word: &str) -> Option<(&'static [Member], Shape)> {
+    match (members_of(word), entry_shape(word)) {
+        (Some(members), Some(shape)) => Some((members, shape)),
+        _ => None,
+    }
 }
 
 fn member_at(alloc: Global, values: &[Value], number: usize, form: Member) -> Search {
@@ -182,17 +192,28 @@ fn place(alloc: Global, value: &Value) -> Search {
     let Some((first, rest)) = array.as_slice().split_first() else {
         return missing(alloc, PLACE_WORDS);
     };
-    let members: &[Plain] = match first.as_str() {
-        Some("dedicated") | Some("pool") | Some("pool_upper") => &[Plain::Small],
-        Some("memory") => &[Plain::Small, Plain::Large],
-        _ => return inside(another(alloc, PLACE_WORDS, first), 0),
+    let shape = match first.as_str() {
+        Some(word) => place_shape(word),
+        None => None,
     };
-    let found = in_plains(alloc, rest, members)?;
+    let Some(shape) = shape else {
+        return inside(unlike(alloc, PLACE_WORDS, first), 0);
+    };
+    let members = place_members(shape);
+    let found = in_plains(alloc, rest, members, shape)?;
     if found.is_some() {
         return Ok(after_word(found));
     }
-    let found = ended(alloc, rest, members.len())?;
+    let found = ended(alloc, rest, members.len(), shape)?;
     Ok(after_word(found))
+}
+
+/// The members after the word of a place: a number, and behind it an offset where there are two.
+fn place_members(shape: Shape) -> &'static [Plain] {
+    match shape.names.len() {
+        2 => &[Plain::Small, Plain::Large],
+        _ => &[Plain::Small],
+    }
 }
 
 /// What was found in the members after a word.
@@ -228,17 +249,17 @@ fn batch(alloc: Global, value: &Value) -> Search {
     let values = array.as_slice();
     for number in 0..3usize {
         let Some(value) = values.get(number) else {
-            return missing(alloc, "an array");
+            return shaped(missing(alloc, "an array"), BATCH, number);
         };
         let found = match number {
             1 => commands(alloc, value)?,
             _ => in_rows(alloc, value, Row::Submit)?,
         };
         if found.is_some() {
-            return inside(Ok(found), number);
+            return shaped(inside(Ok(found), number), BATCH, number);
         }
     }
-    ended(alloc, values, 3)
+    ended(alloc, values, 3, BATCH)
 }
 
 /// What keeps a value from being the commands of a batch.

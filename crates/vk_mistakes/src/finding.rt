@@ -1,4 +1,6 @@
 use crate::entries::trace;
+use crate::mistakes::Misfit;
+use crate::shapes::Shape;
 use serde_json::Value;
 use std::alloc::{AllocError, Global};
 use vk_json::{count_objects, first_nested};
@@ -33,10 +35,14 @@ pub enum MistakePlace {
 pub struct Mistake {
     /// Where.
     pub place: MistakePlace,
+    /// The array in which it is a member, as it is to be written, where that is known.
+    pub form: Option<String>,
+    /// The name that the member has there.
+    pub name: Option<&'static str>,
     /// What is expected there.
     pub expected: &'static str,
     /// What is there.
-    pub found: &'static str,
+    pub found: String,
 }
 
 /// The first thing that keeps an input from being a trace, where something does. It reads the input
@@ -47,42 +53,65 @@ pub struct Mistake {
 /// Where no memory is left.
 pub fn mistake_of(alloc: Global, input: &[u8]) -> Result<Option<Mistake>, AllocError> {
     let Ok(text) = str::from_utf8(input) else {
-        return Ok(Some(Mistake {
-            place: MistakePlace::Byte(utf8_until(input)),
-            expected: "UTF-8",
-            found: "other bytes",
-        }));
+        let place = MistakePlace::Byte(utf8_until(input));
+        return nameless(alloc, place, "UTF-8", "other bytes");
     };
     if let Some(place) = first_object(alloc, text)? {
-        return Ok(Some(Mistake {
-            place: MistakePlace::Byte(place),
-            expected: "an array, a string or a number",
-            found: "an object",
-        }));
+        let expected = "an array, a string or a number";
+        return nameless(alloc, MistakePlace::Byte(place), expected, "an object");
     }
     if let Some(place) = first_nested(alloc, text, MOST_NESTED)? {
-        return Ok(Some(Mistake {
-            place: MistakePlace::Byte(place),
-            expected: "at most nine arrays nested in each other",
-            found: "one more",
-        }));
+        let expected = "at most nine arrays nested in each other";
+        return nameless(alloc, MistakePlace::Byte(place), expected, "one more");
     }
     match Value::from_str(alloc, text) {
         Ok(value) => mistake_in(alloc, &value),
         Err(error) if error.is_memory() => Err(AllocError),
-        Err(error) => Ok(Some(Mistake {
-            place: MistakePlace::Line {
+        Err(error) => {
+            let place = MistakePlace::Line {
                 line: error.line(),
                 column: error.column(),
-            },
-            expected: "valid JSON",
-            found: if error.is_eof() {
+            };
+            let found = if error.is_eof() {
                 "the end of the input"
             } else {
                 "a syntax error"
-            },
-        })),
+            };
+            nameless(alloc, place, "valid JSON", found)
+        }
     }
+}
+
+/// What is wrong at a place that is no member of an array of a known form.
+fn nameless(
+    alloc: Global,
+    place: MistakePlace,
+    expected: &'static str,
+    found: &str,
+) -> Result<Option<Mistake>, AllocError> {
+    Ok(Some(Mistake {
+        place,
+        form: None,
+        name: None,
+        expected,
+        found: String::from_str(alloc, found)?,
+    }))
+}
+
+/// An array as it is to be written: its word, and the names of its other members.
+fn form_of(alloc: Global, shape: Shape) -> Result<String, AllocError> {
+    let mut form = String::from_str(alloc, "[")?;
+    if let Some(word) = shape.word {
+        write!(form, "\"{word}\"")?;
+    }
+    for (number, name) in shape.names.iter().enumerate() {
+        if number > 0 || shape.word.is_some() {
+            form.push_str(", ")?;
+        }
+        form.push_str(name)?;
+    }
+    form.push_str("]")?;
+    Ok(form)
 }
 
 /// The first thing that keeps a value from being a trace.
@@ -90,12 +119,28 @@ fn mistake_in(alloc: Global, value: &Value) -> Result<Option<Mistake>, AllocErro
     let Some(misfit) = trace(alloc, value)? else {
         return Ok(None);
     };
-    let mut inward = misfit.outward;
+    let Misfit {
+        outward: mut inward,
+        shape,
+        index,
+        expected,
+        found,
+    } = misfit;
     inward.as_mut_slice().reverse();
+    let form = match shape {
+        Some(shape) => Some(form_of(alloc, shape)?),
+        None => None,
+    };
+    let name = match shape {
+        Some(shape) => shape.names.get(index).copied(),
+        None => None,
+    };
     Ok(Some(Mistake {
         place: MistakePlace::Member(inward),
-        expected: misfit.expected,
-        found: misfit.found,
+        form,
+        name,
+        expected,
+        found,
     }))
 }
 

@@ -1,4 +1,4 @@
-use crate::mistakes::{Search, another, unlike};
+use crate::mistakes::{Search, unlike};
 use serde_json::Value;
 use std::alloc::Global;
 
@@ -57,19 +57,8 @@ fn fits(value: &Value, form: Plain) -> bool {
 pub fn in_plain(alloc: Global, value: &Value, form: Plain) -> Search {
     if fits(value, form) {
         Ok(None)
-    } else if is_of_kind(value, form) {
-        another(alloc, expected_of(form), value)
     } else {
         unlike(alloc, expected_of(form), value)
-    }
-}
-
-/// Whether a value is a number where a number is expected, or a string where one is.
-fn is_of_kind(value: &Value, form: Plain) -> bool {
-    match form {
-        Plain::Small | Plain::Large => value.is_number(),
-        Plain::Length => value.is_number() || value.is_string(),
-        _ => value.is_string(),
     }
 }
 

@@ -7,5 +7,6 @@ mod finding;
 mod forms;
 mod mistakes;
 mod rows;
+mod shapes;
 
 pub use finding::{Mistake, MistakePlace, mistake_of};

@@ -1,5 +1,6 @@
 use crate::forms::{Plain, expected_of, in_plain};
-use crate::mistakes::{Search, inside, missing, unlike};
+use crate::mistakes::{Search, inside, missing, shaped, unlike};
+use crate::shapes::{Shape, row_shape};
 use serde_json::Value;
 use std::alloc::Global;
 
@@ -70,26 +71,27 @@ pub fn in_row(alloc: Global, value: &Value, form: Row) -> Search {
     };
     let values = array.as_slice();
     let members = members_of(form);
-    let found = in_plains(alloc, values, members)?;
+    let shape = row_shape(form);
+    let found = in_plains(alloc, values, members, shape)?;
     if found.is_some() {
         return Ok(found);
     }
     match form {
         Row::ImageElement => {
-            let found = range_at(alloc, values, members.len())?;
+            let found = shaped(range_at(alloc, values, members.len()), shape, members.len())?;
             if found.is_some() {
                 return Ok(found);
             }
-            ended(alloc, values, members.len().saturating_add(1))
+            ended(alloc, values, members.len().saturating_add(1), shape)
         }
-        _ => ended(alloc, values, members.len()),
+        _ => ended(alloc, values, members.len(), shape),
     }
 }
 
-/// What keeps the first values from being these members.
-pub fn in_plains(alloc: Global, values: &[Value], members: &[Plain]) -> Search {
+/// What keeps the first values from being these members, of an array of a shape.
+pub fn in_plains(alloc: Global, values: &[Value], members: &[Plain], shape: Shape) -> Search {
     for (number, form) in members.iter().enumerate() {
-        let found = plain_at(alloc, values, number, *form)?;
+        let found = shaped(plain_at(alloc, values, number, *form), shape, number)?;
         if found.is_some() {
             return Ok(found);
         }
@@ -113,17 +115,21 @@ fn range_at(alloc: Global, values: &[Value], number: usize) -> Search {
     let Some(array) = value.as_array() else {
         return inside(unlike(alloc, "an array", value), number);
     };
-    let found = in_plains(alloc, array.as_slice(), members_of(Row::Range))?;
+    let shape = row_shape(Row::Range);
+    let found = in_plains(alloc, array.as_slice(), members_of(Row::Range), shape)?;
     if found.is_some() {
         return inside(Ok(found), number);
     }
-    inside(ended(alloc, array.as_slice(), 4), number)
+    inside(ended(alloc, array.as_slice(), 4, shape), number)
 }
 
-/// The value after so many, if there is one.
-pub fn ended(alloc: Global, values: &[Value], count: usize) -> Search {
+/// The value after so many, if there is one, of an array of a shape.
+pub fn ended(alloc: Global, values: &[Value], count: usize, shape: Shape) -> Search {
     match values.get(count) {
-        Some(value) => inside(unlike(alloc, "the end of the array", value), count),
+        Some(value) => {
+            let found = inside(unlike(alloc, "the end of the array", value), count);
+            shaped(found, shape, shape.names.len())
+        }
         None => Ok(None),
     }
 }
