@@ -19,6 +19,8 @@ mod offers;
 #[cfg(test)]
 mod order;
 #[cfg(test)]
+mod queue_cache;
+#[cfg(test)]
 mod queues;
 #[cfg(test)]
 mod ranges;

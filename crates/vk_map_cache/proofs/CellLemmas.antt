@@ -8,15 +8,15 @@ use Rattle.vk_model.specs.Run.CachedRuns.{after_host_write}
 use Rattle.vk_map_cache.specs.declared.mark.Mark.{Mark}
 use Rattle.vk_map_cache.specs.declared.mark.Mark.TheVariants.{Absent}
 use Rattle.vk_map_cache.specs.declared.mark.HeldByte.{HeldByte}
-use Rattle.vk_map_cache.specs.Holdings.{IsCell, given}
+use Rattle.vk_map_cache.specs.Holdings.{IsCellOf, IsCell, given}
 use Rattle.vk_map_cache.specs.Inner.Marks.{holding_of, mark_at, IsMarked}
 
 -- the same is held, and the region has the same value
-pub same_cell : {h h' : Option Held} {v v' : ℕ} {cell : Cell} → h ≡ h' → v ≡ v' → IsCell h v cell → IsCell h' v' cell
+pub same_cell : {a : ℕ} {h h' : Option Held} {v v' : ℕ} {cell : Cell} → h ≡ h' → v ≡ v' → IsCellOf a h v cell → IsCellOf a h' v' cell
 same_cell held region was = record { held = was.held ∙ held; region = was.region ∙ region }
 
 -- the same mark and values
-pub same_marked : {m m' : Mark} {v v' r r' : ℕ} {cell : Cell} → m ≡ m' → v ≡ v' → r ≡ r' → IsCell (holding_of m v) r cell → IsCell (holding_of m' v') r' cell
+pub same_marked : {a : ℕ} {m m' : Mark} {v v' r r' : ℕ} {cell : Cell} → m ≡ m' → v ≡ v' → r ≡ r' → IsCellOf a (holding_of m v) r cell → IsCellOf a (holding_of m' v') r' cell
 same_marked {m' = m'} {v = v} mark value region was =
     same_cell (ap (λ (m : Mark). holding_of m v) mark ∙ ap (λ (x : ℕ). holding_of m' x) value) region was
 
@@ -54,12 +54,12 @@ kept_after xs xs' i v kept k lt = let other : k ≢ i = omega (arith, lt) in let
 -- ---- by a test
 
 -- a cell that is changed where a test holds
-pub changed_if : {h : Option Held} {v : ℕ} (f : Cell → Cell) (cell : Cell) (test : Bool) → test ≡ true → IsCell h v (f cell) → IsCell h v (if test then f cell else cell)
+pub changed_if : {a : ℕ} {h : Option Held} {v : ℕ} (f : Cell → Cell) (cell : Cell) (test : Bool) → test ≡ true → IsCellOf a h v (f cell) → IsCellOf a h v (if test then f cell else cell)
 changed_if f cell true is now = now
 changed_if f cell false is now = absurd cc
 
 -- one that is kept where it doesn't
-pub kept_unless : {h : Option Held} {v : ℕ} (f : Cell → Cell) (cell : Cell) (test : Bool) → test ≡ false → IsCell h v cell → IsCell h v (if test then f cell else cell)
+pub kept_unless : {a : ℕ} {h : Option Held} {v : ℕ} (f : Cell → Cell) (cell : Cell) (test : Bool) → test ≡ false → IsCellOf a h v cell → IsCellOf a h v (if test then f cell else cell)
 kept_unless f cell true is was = absurd cc
 kept_unless f cell false is was = was
 

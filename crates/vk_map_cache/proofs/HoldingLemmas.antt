@@ -9,7 +9,7 @@ use Rattle.vk_model.specs.Run.Caches.{Held}
 use Rattle.vk_map_cache.specs.declared.mark.Mark.{Mark}
 use Rattle.vk_map_cache.specs.declared.mark.Mark.TheVariants.{Absent}
 use Rattle.vk_map_cache.specs.Holdings.{held_in}
-use Rattle.vk_map_cache.specs.Inner.Marks.{holding_of, holdings_of, mark_at}
+use Rattle.vk_map_cache.specs.Inner.Marks.{holding_of, holdings_of, mark_at, with_absent}
 
 -- there is room for as many bytes as there are marks
 pub length-holdings_of : (marks : List Mark) (values : List ℕ) → length marks ≤ length values → length (holdings_of marks values) ≡ length marks
@@ -44,11 +44,17 @@ get_or-alike zero k x = refl
 get_or-alike (suc n) zero x = refl
 get_or-alike (suc n) (suc k) x = get_or-alike n k x
 
-pub more_marks : (marks : List Mark) (size n k : ℕ) → length marks ≤ size → mark_at (take size marks ++ replicate n Absent) k ≡ mark_at marks k
-more_marks marks size n k fits = ap (λ (l : List Mark). mark_at (l ++ replicate n Absent) k) (take_all size marks fits) ∙ elim (cases_lt k (length marks)) [
+pub absent_behind : (marks : List Mark) (n k : ℕ) → mark_at (marks ++ replicate n Absent) k ≡ mark_at marks k
+absent_behind marks n k = elim (cases_lt k (length marks)) [
   | inl lt ↦ get_or_append_left marks (replicate n Absent) Absent k lt
   | inr ge ↦ get_or-append_right marks (replicate n Absent) (length marks) k Absent refl ge ∙ get_or-alike n (k - length marks) Absent ∙ sym (get_or_past marks k Absent ge)
 ]
+
+pub length-with_absent : (marks : List Mark) (size : ℕ) → length marks ≤ size → length (with_absent marks size) ≡ size
+length-with_absent marks size fits = grind (arith, common_steps)
+
+pub more_marks : (marks : List Mark) (size n k : ℕ) → length marks ≤ size → mark_at (take size marks ++ replicate n Absent) k ≡ mark_at marks k
+more_marks marks size n k fits = ap (λ (l : List Mark). mark_at (l ++ replicate n Absent) k) (take_all size marks fits) ∙ absent_behind marks n k
 
 -- and more values, as far as there were any
 more_values : (values : List ℕ) (size n k : ℕ) → k < size → k < length values → get_or (take size values ++ replicate n 0) k 0 ≡ get_or values k 0

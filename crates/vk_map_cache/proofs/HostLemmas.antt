@@ -5,15 +5,15 @@ use Rattle.std.proofs.lemmas.List.{get_or-set_same, get_or_past, get_or_read}
 use Rattle.vk_model.specs.declared.command.Length.TheVariants as length_of
 use Rattle.vk_model.specs.World.Effect.{in_atoms}
 use Rattle.vk_model.specs.Run.Caches.{Held, Cell, loaded, loaded_if, forgotten}
-use Rattle.vk_map_cache.specs.Holdings.{Holdings, held_in, held_at, IsCell, Changes, HoldsSame, only_where}
+use Rattle.vk_map_cache.specs.Holdings.{Holdings, held_in, held_at, IsCellOf, IsCell, ChangesOf, Changes, HoldsSame, only_where}
 use Rattle.vk_map_cache.proofs.CellLemmas.{same_cell}
 use Rattle.vk_map_cache.proofs.HoldingLemmas.{in_range_or}
 
 -- one object is changed
-pub one_object : (f : ℕ → Cell → Cell) (memory : ℕ) (old mid : Holdings) (object after : List (Option Held)) (region region' : List ℕ)
+pub one_object : {a : ℕ} (f : ℕ → Cell → Cell) (memory : ℕ) (old mid : Holdings) (object after : List (Option Held)) (region region' : List ℕ)
     → HoldsSame old mid → memory < length mid → object ≡ get_or mid memory [] → length region' ≡ length region
-    → ((k : ℕ) (cell : Cell) → IsCell (held_in object k) (get_or region k 0) cell → IsCell (held_in after k) (get_or region' k 0) (f k cell))
-    → Changes f memory old (set mid memory after) region region'
+    → ((k : ℕ) (cell : Cell) → IsCellOf a (held_in object k) (get_or region k 0) cell → IsCellOf a (held_in after k) (get_or region' k 0) (f k cell))
+    → ChangesOf a f memory old (set mid memory after) region region'
 one_object f memory old mid object after region region' same named is long each = record {
   bytes = λ k cell was.
       same_cell (sym (ap (λ (o : List (Option Held)). held_in o k) (get_or-set_same mid memory after [] named))) refl
@@ -87,7 +87,7 @@ then_same f memory old mid new region region' was same = record {
 }
 
 -- a range of all that there is room for reaches every byte
-reaches_all : (offset size k : ℕ) → offset ≡ 0 → k < size → in_atoms offset (length_of.Bytes size) k ≡ true
+pub reaches_all : (offset size k : ℕ) → offset ≡ 0 → k < size → in_atoms offset (length_of.Bytes size) k ≡ true
 reaches_all offset size k start lt =
     and_from (nat_lt 0 size && nat_le (offset / 64) (k / 64)) (nat_le (k / 64) ((offset + size - 1) / 64))
     (and_from (nat_lt 0 size) (nat_le (offset / 64) (k / 64)) (lt-ltb 0 size (omega (arith, lt))) (le-leb (offset / 64) (k / 64) (omega (arith, start))))

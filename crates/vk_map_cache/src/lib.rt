@@ -1,4 +1,5 @@
-//! The host's cache in front of memory that isn't coherent.
+//! Caches in front of memory: the host's, in front of memory that isn't coherent, and that of a
+//! queue, in front of all memory.
 //!
 //! The host reaches such memory through a cache (Vulkan, "Host Access to Device Memory
 //! Objects"): what it writes reaches the memory object when it is flushed, and what the device
@@ -14,6 +15,20 @@
 //! cache.invalidate(0, 8, 2);                   // and now 3 2
 //! ```
 //!
+//! What a queue writes stays in its cache until an availability operation writes it back, and what it
+//! holds a copy of is read there until a visibility operation drops it (Vulkan, "Execution and Memory
+//! Dependencies"). Ranges are of bytes; room for all bytes of an object is taken by `add`, and nothing
+//! else wants memory.
+//!
+//! ```text
+//! let mut cache = QueueCache::new(alloc);
+//! cache.add(0, region.size())?;
+//! cache.write(0, 8, &[1, 2]);                  // the queue sees 1 2, memory has what was there
+//! cache.write_back(0, &mut region, 8, 10);     // now memory has them too
+//! region.write(8, &[3]);                       // the queue still sees 1 2
+//! cache.drop_clean(0, 8, 10);                  // and now 3 2
+//! ```
+//!
 //! Contracts see a cache as what it holds of each byte of each memory object, by the object's
 //! number, and speak of a byte as of a `Cell`: its value in the region with what is held of it.
 //! What is held is kept byte by byte, so a byte that was never written is never written back. The
@@ -23,7 +38,12 @@
 mod atoms;
 mod host;
 mod mark;
+mod marks;
 mod object;
+mod queue;
+mod queue_object;
 mod span;
 
 pub use host::HostCache;
+pub use mark::Mark;
+pub use queue::QueueCache;

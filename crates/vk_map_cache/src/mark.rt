@@ -3,10 +3,11 @@ ghost use Rattle.vk_model.specs.Run.Caches.{Cell, value_through};
 ghost use Rattle.vk_map_cache.specs.Holdings.{IsCell};
 ghost use Rattle.vk_map_cache.specs.Inner.Marks.{holding_of, mark_at, IsMarked, changed};
 
-/// Whether a cache holds a byte, and how.
+/// Whether a cache holds a byte, and how (Vulkan, "Execution and Memory Dependencies", on
+/// availability and visibility).
 #[repr(u8)]
-#[derive(Clone, Copy)]
-pub(crate) enum Mark {
+#[derive(Clone, Copy, Debug, PartialEq, Eq)]
+pub enum Mark {
     /// It doesn't hold it.
     Absent,
     /// It holds a copy.

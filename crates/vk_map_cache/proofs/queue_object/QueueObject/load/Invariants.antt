@@ -1,0 +1,16 @@
+use Rattle.std.proofs.Common.{◌≡◌, ◌≤◌, ◌-◌, ℕ, length, if◌then◌else◌, get_or}
+use Rattle.vk_model.specs.Run.Caches.{Cell, loaded}
+use Rattle.vk_map_cache.specs.Holdings.{IsCellOf, held_in, is_between}
+use Rattle.vk_map_cache.proofs.queue_object.QueueObject.load.Given as goal
+
+abbrev pub invariant-loop-done : goal.invariant-loop-done
+invariant-loop-done l = record {
+  after : l.low ≤ l.done;
+  most : l.done ≤ l.high;
+  len : length l.self ≡ length l.initial.self;
+  bytes : (a k : ℕ) (cell : Cell) → IsCellOf a (held_in l.initial.self k) (get_or l.region k 0) cell
+      → IsCellOf a (held_in l.self k) (get_or l.region k 0) (if is_between l.low l.done k then loaded a cell else cell);
+}
+
+abbrev pub decreases-loop-done : goal.decreases-loop-done
+decreases-loop-done l = l.high - l.done
