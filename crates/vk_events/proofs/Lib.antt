@@ -1,0 +1,8 @@
+mod HookLemmas
+mod HangingLemmas
+mod SettledLemmas
+mod HungLemmas
+mod FreeLemmas
+mod LeftLemmas
+mod EventLemmas
+mod UnseenLemmas

@@ -1,0 +1,4 @@
+pub mod Happens
+pub mod IsEvents
+pub mod Laws
+pub mod Inner
