@@ -1,10 +1,11 @@
 #!/bin/bash
-# Compares what vk_order says of random pasts with a slow reading, written from the definitions:
+# Compares what vk_order and vk_events say of random pasts with a slow reading, written from the
+# definitions:
 #
 #     tools/random_pasts.sh [COUNT] [SEED] [SECONDS]
 #
 # COUNT pasts are drawn (200 where nothing is said), the first from SEED (1), each next one from the
-# next number, and all must be compared within SECONDS (3600). The crate and those below it are
+# next number, and all must be compared within SECONDS (3600). The crates and those below them are
 # copied, and a crate is made of the files of random_pasts/ with what the tests of the libraries
 # have for points; its tests are run by `rt try`, so nothing is proved. A difference stops the run,
 # and is printed with its seed.
@@ -14,9 +15,9 @@ here=$(cd "$(dirname "$0")" && pwd)
 room=$(mktemp -d)
 trap 'rm -rf "$room"' EXIT
 mkdir "$room/crates"
-grep -E '^vk_(ids|model|order):' "$here/../crates.txt" >"$room/crates.txt"
-echo 'pasts: vk_model vk_order' >>"$room/crates.txt"
-for crate in vk_ids vk_model vk_order; do
+grep -E '^vk_(ids|model|order|events):' "$here/../crates.txt" >"$room/crates.txt"
+echo 'pasts: vk_model vk_order vk_events' >>"$room/crates.txt"
+for crate in vk_ids vk_model vk_order vk_events; do
     mkdir "$room/crates/$crate"
     cp -r "$here/../crates/$crate/src" "$here/../crates/$crate/specs" "$room/crates/$crate"
 done
@@ -28,8 +29,8 @@ for file in "$here"/random_pasts/*.rt.in; do
     cp "$file" "$tests/order/$(basename "$file" .in)"
 done
 sed -i "s/^const PASTS: u64 = .*/const PASTS: u64 = $count;/; s/^const SEED: u64 = .*/const SEED: u64 = $seed;/" \
-    "$tests/order/random_pasts.rt"
-sed -i '/^mod \(first_path\|frontiers\|seen\|waits\);/d; s/^mod drawn;/&\nmod drawing;\nmod links;\nmod random_pasts;\nmod slow;/; /^#\[tactic/d' "$tests/order.rt"
+    "$tests/order/random_pasts.rt" "$tests/order/random_events.rt"
+sed -i '/^mod \(first_path\|frontiers\|seen\|waits\);/d; s/^mod drawn;/&\nmod drawing;\nmod links;\nmod random_events;\nmod random_pasts;\nmod slow;/; /^#\[tactic/d' "$tests/order.rt"
 printf '%s\n' '#![tactic(auto)]' '#[cfg(test)]' 'mod order;' >"$tests/lib.rt"
 cd "$room/crates/pasts"
 rt try --test --seconds "$seconds"
