@@ -67,3 +67,22 @@ happening_by_piece s x =
     happening_is_unseen s (record s { done = x ∷ s.done })
     ∙ unseen_same (nodes s.front.past) (is_finished s.front.past (x ∷ s.done)) (is_finished s.front.past (x ∷ s.done)) (node_happened s) (is_free_of (nodes s.front.past) (is_finished s.front.past s.done)) (λ n c. refl)
     (λ n c. ap (λ (t : Bool). t && is_free s.front.past s.done n) (lt-ltb n.number (length (nodes s.front.past)) (number_below (nodes s.front.past) (numbered s.front.past) n c)))
+
+-- from a stage to itself
+filter_none : (f : Node → Bool) (xs : List Node) → ((n : Node) → Contains xs n → f n ≡ false) → filter f xs ≡ []
+filter_none f [] none = refl
+filter_none f (x ∷ xs) none =
+    ap (λ (b : Bool). if b then x ∷ filter f xs else filter f xs) (none x (contains-head x xs))
+    ∙ filter_none f xs (λ n c. none n (contains-tail x xs n c))
+
+pub nothing_is_unseen : (s : Stage) → unseen (nodes s.front.past) (is_finished s.front.past s.done) (node_happened s) ≡ []
+nothing_is_unseen s = filter_none _ (reverse (nodes s.front.past)) (λ n c.
+    ap (λ (t : Bool). is_synchronization n.act && is_free s.front.past s.done n && not (t && is_free s.front.past s.done n))
+    (lt-ltb n.number (length (nodes s.front.past)) (number_below (nodes s.front.past) (numbered s.front.past) n (in_reverse (nodes s.front.past) n c)))
+    ∙ never (is_synchronization n.act) (is_free s.front.past s.done n))
+  where
+    never : (a b : Bool) → (a && b && not b) ≡ false
+    never true true = refl
+    never true false = refl
+    never false true = refl
+    never false false = refl
