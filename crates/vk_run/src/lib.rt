@@ -4,4 +4,4 @@
 
 mod running;
 
-pub use running::{Answer, Status, answer_of, run};
+pub use running::{Answer, Status, answer_of, outcome_of, run};

@@ -123,8 +123,9 @@ fn answer_status(outcome: &Outcome) -> Status
     }
 }
 
-/// The answer to a trace. A device that is new has no error but want of memory.
-fn outcome_of<S: Scheduler>(
+/// What there is to report of a trace: the bytes that it means, up to the first entry that finds no room
+/// in heaps of these sizes, or its first fault. The only error is want of memory.
+pub fn outcome_of<S: Scheduler>(
     alloc: Global,
     entries: &[Entry],
     config: Config,
