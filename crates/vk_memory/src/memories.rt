@@ -118,6 +118,22 @@ impl Memories {
         }
     }
 
+    /// The number of the next object that is made.
+    pub fn next_number(&self) -> u64
+        ensures { result ≡ length self.now.objects }
+    {
+        self.objects.len() as u64
+    }
+
+    /// Whether there is no room for an object of `size` bytes: the heap would be passed, or the most
+    /// objects are live.
+    pub fn is_full(&self, memory_type: u32, size: u64) -> bool
+        ensures { IsTrue result ↔ IsFull self.now memory_type size }
+    {
+        let heap = self.heap(memory_type);
+        self.live >= MOST_OBJECTS || size > heap.size - heap.used
+    }
+
     /// Makes an object of `size` bytes, and answers its number: they count from 0, and rise.
     #[tactic(auto, using(crate::proofs::MemoryStateLemmas::adding))]
     pub fn allocate(&mut self, memory_type: u32, size: u64) -> Result<u64, MemoryError>

@@ -1,0 +1,4 @@
+pub mod Agents
+pub mod Changing
+pub mod Allocating
+pub mod Hosting

@@ -1,0 +1,3 @@
+-- What only the contracts within the crate cite.
+pub mod IsCaching
+pub mod Rooms

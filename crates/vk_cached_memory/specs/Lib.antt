@@ -1,0 +1,2 @@
+pub mod CachedState
+pub mod Inner
