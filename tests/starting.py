@@ -1,10 +1,10 @@
 #!/usr/bin/env python3
-"""Tests which program ./replay and ./explain run: the one that was built here, the released one, or a new build.
+"""Tests which program ./replay, ./explain and ./emit run: one that was built here, the released one, or a new build.
 
     tests/starting.py
 
-Each test makes a small repository of its own, with the scripts of this one, two crates without a line of code
-in them, and programs that say what they are. A build is that of a stand-in for the toolchain.
+Each test makes a small repository of its own, with the scripts of this one, crates without a line of code in
+them, and programs that say what they are. A build is that of a stand-in for the toolchain.
 """
 
 import os
@@ -18,8 +18,9 @@ sys.dont_write_bytecode = True
 
 from harness import TOP, Answer, Test, difference, main, run
 
-SCRIPTS = ("replay", "explain", "tools/program", "tools/build", "tools/crates.sh", "tools/release", ".ci/no_toolchain")
-CRATES = "low:\nvk_replay: low\nexplain: low\n"
+SCRIPTS = ("replay", "explain", "emit", "tools/program", "tools/build", "tools/crates.sh", "tools/release", ".ci/no_toolchain")
+PROGRAMS = ("replay", "explain", "emit")
+CRATES = "low:\nvk_replay: low\nexplain: low\nemit: low\n"
 FILES = {
     "crates.txt": CRATES,
     "VERSION": "1.2.3\n",
@@ -27,6 +28,7 @@ FILES = {
     "crates/low/specs/Lib.antt": "",
     "crates/vk_replay/src/main.rt": "// two\n",
     "crates/explain/src/main.rt": "// three\n",
+    "crates/emit/src/main.rt": "// four\n",
 }
 # A stand-in for `rt`, which "builds" a program that says that it was built of the sources as they are.
 TOOLCHAIN = """\
@@ -50,7 +52,7 @@ class Repository:
             shutil.copy(TOP / script, self.top / script)
         for name, text in FILES.items():
             self.write(name, text)
-        for name in ("replay", "explain"):
+        for name in PROGRAMS:
             self.program(f"built/{name}", f'[ "$1" = --version ] && echo "{name} 1.2.3" || echo "released $@"')
         self.program("bin/rt", TOOLCHAIN.partition("\n")[2])
         self.release()
@@ -66,7 +68,7 @@ class Repository:
 
     def release(self):
         """Makes a release of the sources as they are."""
-        command = [self.top / "tools/release", self.top / "built/replay", self.top / "built/explain"]
+        command = [self.top / "tools/release", *(self.top / "built" / name for name in PROGRAMS)]
         subprocess.run(command, check=True, stdout=subprocess.DEVNULL, env=self.environment())
 
     def environment(self, toolchain=True, tools=None):
@@ -104,8 +106,12 @@ def runs_the_release(repository):
         found = difference(wanted, repository.start())
         if found:
             return found
-    wanted = said("released --order last\n")
-    return difference(wanted, repository.start("explain", "--order", "last"))
+    for name in ("explain", "emit"):
+        found = difference(said("released --order last\n"), repository.start(name, "--order", "last"))
+        if found:
+            return found
+    wanted = said(f"released --header {repository.top}/tools/drive/zw_drive.h\n")
+    return difference(wanted, repository.start("emit", "--whole"))
 
 
 def changed_and_back(repository, change, back, **options):
@@ -211,14 +217,14 @@ def ignores_the_limit_on_files(repository):
 
 def compares_the_release(repository):
     """The released programs are compared with those that were built, byte for byte."""
-    command = [repository.top / "tools/release", "--compare", repository.top / "built/replay", repository.top / "built/explain"]
+    command = [repository.top / "tools/release", "--compare", *(repository.top / "built" / name for name in PROGRAMS)]
     same = run(command, env=repository.environment())
     repository.program("built/explain", "echo other")
     other = run(command, env=repository.environment())
     line_changed(repository)
     older = run(command, env=repository.environment())
     ends = [answer.output.splitlines()[-1] for answer in (same, other, older)]
-    wanted = [b"5 passed, 0 failed", b"4 passed, 1 failed", b"3 passed, 0 failed"]
+    wanted = [b"7 passed, 0 failed", b"6 passed, 1 failed", b"4 passed, 0 failed"]
     return None if ends == wanted else f"wanted: {wanted}\n  came:   {ends}"
 
 

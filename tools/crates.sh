@@ -31,7 +31,10 @@ sum_of() {
     )
 }
 
+# The crates of the released programs.
+released="vk_replay explain emit"
+
 # What the released programs are built from, as one sum.
 sources_sum() {
-    sum_of $(crates_of vk_replay explain)
+    sum_of $(crates_of $released)
 }
