@@ -1,6 +1,6 @@
 #!/bin/bash
-# Compares what vk_order and vk_events say of random pasts with a slow reading, written from the
-# definitions:
+# Compares what vk_order, vk_events and vk_offers say of random pasts with a slow reading, written
+# from the definitions:
 #
 #     tools/random_pasts.sh [COUNT] [SEED] [SECONDS]
 #
@@ -15,9 +15,9 @@ here=$(cd "$(dirname "$0")" && pwd)
 room=$(mktemp -d)
 trap 'rm -rf "$room"' EXIT
 mkdir "$room/crates"
-grep -E '^vk_(ids|model|order|events):' "$here/../crates.txt" >"$room/crates.txt"
-echo 'pasts: vk_model vk_order vk_events' >>"$room/crates.txt"
-for crate in vk_ids vk_model vk_order vk_events; do
+grep -E '^vk_(ids|model|order|sync|events|queues|laws|offers):' "$here/../crates.txt" >"$room/crates.txt"
+echo 'pasts: vk_model vk_order vk_events vk_offers' >>"$room/crates.txt"
+for crate in vk_ids vk_model vk_order vk_sync vk_events vk_queues vk_laws vk_offers; do
     mkdir "$room/crates/$crate"
     cp -r "$here/../crates/$crate/src" "$here/../crates/$crate/specs" "$room/crates/$crate"
 done
@@ -29,8 +29,8 @@ for file in "$here"/random_pasts/*.rt.in; do
     cp "$file" "$tests/order/$(basename "$file" .in)"
 done
 sed -i "s/^const PASTS: u64 = .*/const PASTS: u64 = $count;/; s/^const SEED: u64 = .*/const SEED: u64 = $seed;/" \
-    "$tests/order/random_pasts.rt" "$tests/order/random_events.rt"
-sed -i '/^mod \(first_path\|frontiers\|seen\|waits\);/d; s/^mod drawn;/&\nmod drawing;\nmod links;\nmod random_events;\nmod random_pasts;\nmod slow;/; /^#\[tactic/d' "$tests/order.rt"
+    "$tests/order/random_pasts.rt" "$tests/order/random_events.rt" "$tests/order/random_happenings.rt"
+sed -i '/^mod \(first_path\|frontiers\|seen\|waits\);/d; s/^mod drawn;/&\nmod drawing;\nmod links;\nmod random_events;\nmod random_happenings;\nmod random_pasts;\nmod slow;/; /^#\[tactic/d' "$tests/order.rt"
 printf '%s\n' '#![tactic(auto)]' '#[cfg(test)]' 'mod order;' >"$tests/lib.rt"
 cd "$room/crates/pasts"
 rt try --test --seconds "$seconds"

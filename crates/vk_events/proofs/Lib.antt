@@ -5,4 +5,4 @@ mod HungLemmas
 mod FreeLemmas
 mod LeftLemmas
 mod EventLemmas
-mod UnseenLemmas
+pub mod UnseenLemmas

@@ -1,5 +1,5 @@
--- What happens from one stage to another, as nodes come and more is finished.
-use Rattle.std.proofs.Common.{◌≡◌, ◌||◌, IsTrue, List, [], ◌∷◌, ◌++◌, reverse, length, Bool, true, false, not, ◌&&◌, refl, ap, ◌∙◌}
+-- What happens from one stage to another, as nodes come and more is finished. Other crates cite it.
+use Rattle.std.proofs.Common.{◌≡◌, ◌||◌, IsTrue, List, [], ◌∷◌, ◌++◌, reverse, length, Bool, true, false, not, ◌&&◌, refl, ap, sym, ◌∙◌}
 use Rattle.std.specs.Prelude.{Contains, if◌then◌else◌}
 use Rattle.std.specs.List.{filter}
 use Rattle.std.proofs.lemmas.Bool.{lt-ltb}
@@ -7,14 +7,16 @@ use Rattle.std.proofs.lemmas.List.Elements.{filter-append}
 use Rattle.std.proofs.lemmas.List.Sorted.{IsPermutation-reverse, IsPermutation-sym, Contains-permutation}
 use Rattle.vk_model.specs.Trace.Point.{Past}
 use Rattle.vk_model.specs.Sync.Node.{Node, nodes}
-use Rattle.vk_model.specs.Sync.Before.{IsNumbered}
+use Rattle.vk_model.specs.Sync.Before.{before, IsNumbered}
 use Rattle.vk_model.specs.Run.Runs.{Stage, Name, is_free, is_done, same_name, node_pieces}
 use Rattle.vk_model.specs.Run.CachedRuns.{is_synchronization, node_happened, happening}
 use Rattle.vk_model.proofs.Lists.Members.{contains-head, contains-tail, each_of, all_passes}
 use Rattle.vk_model.proofs.Sync.Numbers.{number_below, numbered}
-use Rattle.vk_events.specs.Happens.{is_finished, is_free_of, unseen, freed_by}
-use Rattle.vk_events.proofs.FreeLemmas.{free_stays}
-use Rattle.vk_events.proofs.LeftLemmas.{reversed}
+use Rattle.vk_events.specs.declared.events.Events.{Events}
+use Rattle.vk_events.specs.Happens.{synchronizations, is_finished, is_free_of, unseen, freed_by}
+use Rattle.vk_events.specs.IsEvents.{IsEvents}
+use Rattle.vk_events.proofs.FreeLemmas.{free_stays, all_same}
+use Rattle.vk_events.proofs.LeftLemmas.{reversed, left_same}
 
 -- a list chosen by two tests that agree
 pub filter_same : (f g : Node → Bool) (xs : List Node) → ((n : Node) → Contains xs n → f n ≡ g n) → filter f xs ≡ filter g xs
@@ -86,3 +88,43 @@ nothing_is_unseen s = filter_none _ (reverse (nodes s.front.past)) (λ n c.
     never true false = refl
     never false true = refl
     never false false = refl
+
+-- nothing, where all was seen
+pub all_seen : (ns : List Node) (finished seen : Node → Bool) → ((n : Node) → Contains ns n → seen n ≡ true) → unseen ns finished seen ≡ []
+all_seen ns finished seen all = filter_none _ (reverse ns) (λ n c.
+    ap (λ (t : Bool). is_synchronization n.act && is_free_of ns finished n && not t) (all n (in_reverse ns n c))
+    ∙ never (is_synchronization n.act) (is_free_of ns finished n))
+  where
+    never : (a b : Bool) → (a && b && false) ≡ false
+    never true true = refl
+    never true false = refl
+    never false b = refl
+
+-- by a test of what is finished that agrees on the nodes
+free_alike : (ns : List Node) (was now : Node → Bool) → ((m : Node) → Contains ns m → now m ≡ was m) → (n : Node) → is_free_of ns was n ≡ is_free_of ns now n
+free_alike ns was now same n = all_same (λ m. not (before ns m n) || was m) (λ m. not (before ns m n) || now m) ns (λ m c. ap (λ (t : Bool). not (before ns m n) || t) (sym (same m c)))
+
+pub unseen_alike : (ns : List Node) (was now seen : Node → Bool) → ((m : Node) → Contains ns m → now m ≡ was m) → unseen ns was seen ≡ unseen ns now seen
+unseen_alike ns was now seen same = unseen_same ns was now seen seen (λ n c. free_alike ns was now same n) (λ n c. refl)
+
+-- what is known stays known, where what is finished is told by a test that agrees
+pub known_alike : (ev : Events) (ns : List Node) (was now : Node → Bool) (left : List Node) → ((m : Node) → Contains ns m → now m ≡ was m) → IsEvents ev ns was left → IsEvents ev ns now left
+known_alike ev ns was now left same is = record {
+  numbers = is.numbers;
+  total = is.total;
+  four = is.four;
+  started = is.started;
+  counts = is.counts;
+  fronts = is.fronts;
+  taken = is.taken;
+  hanging = is.hanging;
+  all = is.all;
+  are_fronts = record {
+    first = λ m q on c line lt. same m c ∙ is.are_fronts.first m q on c line lt;
+    next = λ m q on c line at. same m c ∙ is.are_fronts.next m q on c line at;
+    there = is.are_fronts.there;
+    commands = λ m c e. is.are_fronts.commands m c (sym (same m c) ∙ e);
+  };
+  left_are = is.left_are ∙ left_same (is_free_of ns was) (is_free_of ns now) is.taken 0 (synchronizations ns)
+      (λ i n at. free_alike ns was now same n);
+}

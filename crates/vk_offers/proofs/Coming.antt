@@ -1,13 +1,14 @@
--- Each point of an ordered past without a fault may come next.
-use Rattle.std.proofs.Common.{◌≡◌, ℕ, ◌<◌, List, [], ◌∷◌, ◌++◌, length, Bool, true, false, IsTrue, refl, ap, sym, subst, arith}
+-- Each point of an ordered past without a fault may come next, on one of four queues.
+use Rattle.std.proofs.Common.{◌≡◌, ℕ, ◌<◌, List, [], ◌∷◌, ◌++◌, length, Bool, true, false, IsTrue, refl, ap, sym, ◌∙◌, subst, arith}
 use Rattle.std.specs.Prelude.{Contains, nat_lt}
 use Rattle.std.proofs.lemmas.Bool.{ltb-false}
+use Rattle.std.proofs.lemmas.List.{append_assoc}
 use Rattle.vk_model.specs.declared.command.Cmd.{Cmd}
 use Rattle.vk_model.specs.declared.entry.Batch.{Batch}
 use Rattle.vk_model.specs.declared.entry.Entry.TheVariants as entry
 use Rattle.vk_model.specs.declared.rule.Rule.TheVariants as rule
 use Rattle.vk_model.specs.World.ByteWrites.{ByteWrite}
-use Rattle.vk_model.specs.Trace.Point.{Past, Point, Run, host_of}
+use Rattle.vk_model.specs.Trace.Point.{Past, Point, Action, Host, Wait, Run, Signal, host_of}
 use Rattle.vk_model.specs.Trace.Order.{host}
 use Rattle.vk_model.specs.Trace.Structure.{IsOfBatch, Follows, IsOrdered}
 use Rattle.vk_model.specs.Sync.Node.{Act, Hosts, Waits, Signals, Runs, Depends}
@@ -68,3 +69,19 @@ comes_next news all newer past p count sound ordered whole counted = record {
 
     of_batch : (c : Cmd) → p.action ≡ Run c → IsOfBatch past p
     of_batch c is = is_of_batch past p p.action (ap host_of is) follows.0
+
+-- each point is on one of four queues
+pub on_queues : (all newer past : Past) (p : Point) → IsUnbroken all → IsOrdered all → all ≡ newer ++ p ∷ past → p.queue < 4
+on_queues all newer past p sound ordered whole = go p.action (follows_at all past p ordered come).0
+  where
+    come : Comes all past p
+    come = subst (λ (l : Past). Comes l past p) (sym whole) (comes_here newer past p)
+
+    before_it : IsUnbroken past
+    before_it = unbroken_before all (newer ++ p ∷ []) past (whole ∙ sym (append_assoc newer (p ∷ []) past)) sound
+
+    go : (a : Action) → Follows past p a → p.queue < 4
+    go (Host x) f = subst (λ (q : Point). q.queue < 4) (sym f) (omega arith)
+    go (Wait s) f = on_queue past p.entry p.queue f.batches before_it f.submitted
+    go (Run c) f = on_queue past p.entry p.queue f.batches before_it f.submitted
+    go (Signal s) f = on_queue past p.entry p.queue f.batches before_it f.submitted

@@ -20,7 +20,7 @@ use Rattle.vk_order.proofs.PlaceLemmas.{place-top}
 use Rattle.vk_offers.specs.IsOffers.{commands_in}
 use Rattle.vk_model.proofs.Lists.Items.{get_before, push_new, push_cases}
 
-reversed : (n : Node) (ns : List Node) → reverse (n ∷ ns) ≡ reverse ns ++ n ∷ []
+pub reversed : (n : Node) (ns : List Node) → reverse (n ∷ ns) ≡ reverse ns ++ n ∷ []
 reversed n ns = grind (arith, common_steps)
 
 one_left : (n : Node) (t : Bool) → is_command n.act ≡ t → filter (λ m. is_command m.act) (n ∷ []) ≡ (if t then n ∷ [] else [])

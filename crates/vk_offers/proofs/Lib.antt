@@ -6,3 +6,7 @@ pub mod Steps
 pub mod Coming
 mod Waiting
 pub mod PiecesLeft
+mod RowsAlone
+mod RowCounts
+mod FrontLemmas
+mod Happening

@@ -108,14 +108,14 @@ all_commands f (n ∷ ns) others = go (is_command n.act) refl (all_commands f ns
 
 -- ---- a command's pieces
 
-no_pieces : (past : Past) (n : Node) (a : Act) → is_command a ≡ false → node_pieces past n a ≡ []
+pub no_pieces : (past : Past) (n : Node) (a : Act) → is_command a ≡ false → node_pieces past n a ≡ []
 no_pieces past n (Hosts x) e = refl
 no_pieces past n (Waits s) e = refl
 no_pieces past n (Signals s) e = refl
 no_pieces past n (Runs c) e = absurd cc
 no_pieces past n (Depends r m) e = refl
 
-named_pieces : (past : Past) (n : Node) (a : Act) → node_pieces past n a ≡ map (λ k. (n.number, k)) (below (piece_count past a))
+pub named_pieces : (past : Past) (n : Node) (a : Act) → node_pieces past n a ≡ map (λ k. (n.number, k)) (below (piece_count past a))
 named_pieces past n (Hosts x) = refl
 named_pieces past n (Waits s) = refl
 named_pieces past n (Signals s) = refl
@@ -138,7 +138,7 @@ module _ (past : Past) (done : List Name) (cs : List Command) (started : AreStar
   same_count q j = count_alike (λ c. c.queue == q) (on_queue q) j cs (commands_in (nodes past)) (sym started.lengths) (λ i c n at_c at_n. ap (λ (k : ℕ). k == q) (started.each i n c at_n at_c).queue)
 
   -- a command whose pieces have run has none left
-  same_left : (j : ℕ) (m : Node) (c : Command) → slice_get (commands_in (nodes past)) j ≡ Some m → slice_get cs j ≡ Some c → list_all (is_done done) (node_pieces past m m.act) ≡ (length c.left == 0)
+  pub same_left : (j : ℕ) (m : Node) (c : Command) → slice_get (commands_in (nodes past)) j ≡ Some m → slice_get cs j ≡ Some c → list_all (is_done done) (node_pieces past m m.act) ≡ (length c.left == 0)
   same_left j m c at_m at_c =
       ap (λ (xs : List Name). list_all (is_done done) xs) (named_pieces past m m.act) ∙ all_mapped (is_done done) (λ k. (m.number, k)) (below (piece_count past m.act))
       ∙ none_left (λ k. is_done done (m.number, k)) (below (piece_count past m.act)) ∙ ap (λ (ks : List ℕ). length ks == 0) (sym (started.each j m c at_m at_c).left)

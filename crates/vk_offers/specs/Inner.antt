@@ -1,2 +1,3 @@
 -- What only the contracts within the crate cite.
 pub mod Starting
+pub mod Rows

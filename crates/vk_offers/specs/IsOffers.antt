@@ -1,5 +1,5 @@
 -- The commands that were started, and what is left of them.
-use Rattle.std.specs.Prelude.{◌≡◌, ℕ, ◌<◌, ◌≤◌, List, ◌∷◌, true, false, map, reverse, length, Bool, not, ◌||◌, nat_lt, slice_get, slice_index, Contains, Option, Some, None, IsTrue}
+use Rattle.std.specs.Prelude.{◌≡◌, ℕ, ◌<◌, List, ◌∷◌, true, false, map, reverse, length, Bool, not, ◌||◌, slice_get, Contains, Option, Some, None, IsTrue}
 use Rattle.std.specs.List.{filter, list_all}
 use Rattle.vk_model.specs.declared.command.Cmd.{Cmd}
 use Rattle.vk_model.specs.declared.command.Cmd.TheVariants as cmd
@@ -13,12 +13,11 @@ use Rattle.vk_model.specs.Sync.Edge.{is_command}
 use Rattle.vk_model.specs.Sync.Before.{before}
 use Rattle.vk_model.specs.Run.Pieces.{pieces}
 use Rattle.vk_model.specs.Run.Runs.{Name, is_done, node_pieces}
-use Rattle.vk_order.specs.declared.lines.Line.TheVariants.{Commands as OfCommands}
-use Rattle.vk_order.specs.Lines.{line_of, place}
 use Rattle.vk_order.specs.Queries.{IsNew}
 use Rattle.vk_order.specs.Frontiers.{IsFrontier}
 use Rattle.vk_sync.specs.declared.board.Command.{Command}
 use Rattle.vk_sync.specs.declared.ready.Piece.{Piece}
+pub use Rattle.vk_events.specs.Happens.{CountsBefore}
 use Rattle.vk_offers.specs.declared.offers.Offers.{Offers}
 
 -- The clears and copies among nodes, the oldest first (Vulkan, "Clear Commands" and "Copy Commands").
@@ -38,11 +37,6 @@ number_of (Some n) = n.number
 -- A piece of the commands that were started, by its name: the number of its command's node, and its place among the pieces.
 abbrev pub name_of : Past → Piece → Name
 name_of past p = (number_of (slice_get (commands_in (nodes past)) p.command), p.index)
-
--- These are, of each queue, how many of its commands are before a node that comes after these (Vulkan, "Execution and Memory Dependencies").
-pub record CountsBefore (ns : List Node) (n : Node) (counts : List ℕ) : Type 0 where
-  pub first : (m : Node) (q : ℕ) → q < 4 → Contains ns m → line_of m ≡ Some (OfCommands q) → before ns m n ≡ nat_lt (place ns (OfCommands q) m.number) (slice_index counts q)
-  pub there : (q : ℕ) → q < 4 → slice_index counts q ≤ place ns (OfCommands q) n.number
 
 -- Whether a command is run in pieces: a barrier, a set or an await isn't (Vulkan, "Clear Commands" and "Copy Commands").
 abbrev pub is_run : Cmd → Bool

@@ -1,3 +1,4 @@
 pub mod IsOffers
+pub mod IsHappenings
 pub mod Laws
 pub mod Inner

@@ -1,6 +1,7 @@
-//! Laws of what is offered, each the contract of a function that does nothing.
-ghost use Rattle.vk_offers.specs.Laws.{OrderComesNext, WaitsMayGo};
+//! Laws of what is offered and of what happens, each the contract of a function that does nothing.
+ghost use Rattle.vk_offers.specs.Laws.{OrderComesNext, PointsAreOnQueues, NothingHappens, WaitsMayGo};
 
+use vk_events::happening_is_unseen;
 use vk_model::{before_is_order, growth_keeps};
 use vk_queues::points_are_new;
 
@@ -10,6 +11,21 @@ pub fn points_come_next()
     ensures { OrderComesNext }
 {
     points_are_new();
+}
+
+/// Each point of an ordered past without a fault is on one of four queues: `Happenings` can take
+/// them, too.
+pub fn points_are_on_queues()
+    ensures { PointsAreOnQueues }
+{}
+
+/// From a stage of a run to itself nothing happens. So where all that has happened is taken, as the
+/// points of the next entry are added one after another `Happenings` leads to what happens from the
+/// stage before the entry to the one after it.
+pub fn nothing_happens()
+    ensures { NothingHappens }
+{
+    happening_is_unseen();
 }
 
 /// A wait of the host may be applied exactly where all pieces of commands before it have run, seen

@@ -19,10 +19,10 @@ use vk_sync::{Piece, Ready};
 /// which of their pieces have run, and what is before what.
 #[derive(Drop)]
 pub struct Offers<'a> {
-    alloc: Global,
-    frontier: Frontier,
+    pub(crate) alloc: Global,
+    pub(crate) frontier: Frontier,
     commands: Vec<&'a Cmd>,
-    ready: Ready,
+    pub(crate) ready: Ready,
 }
 
 impl<'a> Offers<'a> {
@@ -154,7 +154,7 @@ pub fn run_at<'a>(point: &Point<'a>) -> Option<&'a Cmd>
 }
 
 /// How many commands of each queue are before the node that comes next.
-fn commands_before(new_node: &NewNode<'_>) -> [usize; 4]
+pub(crate) fn commands_before(new_node: &NewNode<'_>) -> [usize; 4]
     ensures { (ns : List Node) (n : Node) → IsNewNode ns n new_node.now → CountsBefore (n ∷ ns) n result }
 {
     before_is_order();

@@ -11,7 +11,7 @@ use Rattle.std.proofs.lemmas.Bool.{cases_lt, lt-ltb, le-ltb, or_left, or_right, 
 use Rattle.vk_sync.specs.declared.board.Command.{Command}
 use Rattle.vk_sync.specs.declared.ready.Piece.{Piece}
 use Rattle.vk_sync.specs.Inner.Fronts.{HasCommand, IsWithin, AreFronts}
-use Rattle.vk_sync.specs.Ready.{count_on, is_among, is_met, pieces_of, ready}
+use Rattle.vk_sync.specs.Ready.{count_on, is_among, is_met, pieces_of, ready, AreFinished}
 use Rattle.vk_sync.proofs.FrontLemmas.{command_of, in_order, place_within, read_command}
 use Rattle.vk_sync.proofs.LeftLemmas.{get_of}
 use Rattle.vk_sync.proofs.ChangeLemmas.{get_flat, flat_at, get_mapped, mapped_get, numbers_given, all_pass, pass_at, is_nothing, get_enumerated, enumerated_get}
@@ -51,6 +51,14 @@ module _ (cs : List Command) (lines : List (List ℕ)) (done free counts : List 
           | inr ran ↦ absurd (fronts.done_are q lt j c s (is_nothing c.left (eqb-true (length c.left) 0 ran)))
         ]
   ]
+
+  -- What is done is finished, and no more.
+  pub fronts_finished : AreFinished cs done
+  fronts_finished = record {
+    there = fronts.loose.done_within;
+    first = λ j c is lt. fronts.loose.finished c.queue (count_on c.queue (take j cs)) j c (record { is = is; on = refl; rank = refl }) lt;
+    next = λ j c is at. fronts.done_are c.queue (fronts.loose.sound.queues j c is) j c (record { is = is; on = refl; rank = at });
+  }
 
   -- A command waits for nothing more where its queue counts it as free.
   pub free_is_met : (q r j : ℕ) (c : Command) → HasCommand cs q r j c → is_met c.before cs ≡ nat_lt r (get_or free q 0)

@@ -1,5 +1,5 @@
 -- The pieces of commands that may run next.
-use Rattle.std.specs.Prelude.{ℕ, ◌≡◌, ◌<◌, ◌≤◌, List, [], map, take, filter, count_by, Bool, not, ◌||◌, ◌==◌, nat_lt, if◌then◌else◌, slice_index, slice_get, slice_set, length, Option, Some, None}
+use Rattle.std.specs.Prelude.{ℕ, ◌≡◌, ◌≢◌, ◌<◌, ◌≤◌, List, [], map, take, filter, count_by, Bool, not, ◌||◌, ◌==◌, nat_lt, if◌then◌else◌, slice_index, slice_get, slice_set, length, Option, Some, None}
 use Rattle.std.specs.List.{flat_map, list_all, enumerate_from}
 use Rattle.vk_sync.specs.declared.board.Command.{Command}
 use Rattle.vk_sync.specs.declared.ready.Piece.{Piece}
@@ -42,3 +42,9 @@ pub record MayCome (cs : List Command) (queue : ℕ) (before : List ℕ) : Type 
   pub on_queue : queue < 4
   pub known : (q : ℕ) → q < 4 → slice_index before q ≤ count_on q cs
   pub rising : (j : ℕ) (c : Command) → slice_get cs j ≡ Some c → c.queue ≡ queue → (q : ℕ) → q < 4 → slice_index c.before q ≤ slice_index before q
+
+-- Of each queue the first so many commands have no piece left, and the next one has one, if there is a next one (Vulkan, "Implicit Synchronization Guarantees", on submission order; a number for each queue: profile).
+pub record AreFinished (cs : List Command) (fronts : List ℕ) : Type 0 where
+  pub there : (q : ℕ) → q < 4 → slice_index fronts q ≤ count_on q cs
+  pub first : (j : ℕ) (c : Command) → slice_get cs j ≡ Some c → count_on c.queue (take j cs) < slice_index fronts c.queue → c.left ≡ []
+  pub next : (j : ℕ) (c : Command) → slice_get cs j ≡ Some c → count_on c.queue (take j cs) ≡ slice_index fronts c.queue → c.left ≢ []

@@ -2,7 +2,7 @@ ghost use Rattle.std.specs.Prelude.{◌≡◌, ◌<◌, ◌≤◌, ◌↔◌, �
 ghost use Rattle.std.specs.Prelude.{IfOk, OnOk, OnErr, IsTrue};
 ghost use Rattle.std.specs.Prelude.{Some, Contains, length, slice_get, slice_index};
 ghost use Rattle.std.specs.List.{range_with_len};
-ghost use Rattle.vk_sync.specs.Ready.{MayCome, count_on, is_met, ready, after_piece};
+ghost use Rattle.vk_sync.specs.Ready.{MayCome, AreFinished, count_on, is_met, ready, after_piece};
 
 use crate::board::{Board, Command, is_within};
 use crate::left::PieceSet;
@@ -140,6 +140,15 @@ impl Ready {
         ensures { result ≡ is_met before self.now }
     {
         is_within(&before, &self.board.done)
+    }
+
+    /// Of each queue, how many commands from its first on are finished: they have no piece left, and
+    /// the next one has one, if there is a next one. It takes no memory.
+    pub fn fronts(&self) -> [usize; 4]
+        ensures { AreFinished self.now result }
+    {
+        let kept = &self.board;
+        kept.done
     }
 
     /// A ready piece has run: it is left no more, and all else stays. It takes no memory.

@@ -1,7 +1,7 @@
 -- A command that is started.
-use Rattle.std.specs.Prelude.{◌≡◌, ℕ, ◌∷◌, List, Bool, true, false}
+use Rattle.std.specs.Prelude.{◌≡◌, ℕ, ◌∷◌, List, true, false}
 use Rattle.vk_model.specs.declared.command.Cmd.{Cmd}
-use Rattle.vk_model.specs.Trace.Point.{Past, Point, Action, Run}
+use Rattle.vk_model.specs.Trace.Point.{Past, Point, Run}
 use Rattle.vk_model.specs.Run.Runs.{Name}
 use Rattle.vk_offers.specs.declared.offers.Offers.{Offers}
 use Rattle.vk_offers.specs.IsOffers.{IsOffers, ComesNext, is_run, is_run_in_pieces}
