@@ -1,0 +1,10 @@
+pub mod NextReads
+mod CachedReads
+mod Told
+mod InPlaceSteps
+mod HostTold
+mod PiecesTold
+mod EntriesTold
+mod LagRuns
+mod BareBytes
+mod CachedPicking

@@ -1,0 +1,4 @@
+pub mod CachedPicks
+pub mod InPlace
+pub mod InPlaceRuns
+pub mod ThroughCaches
