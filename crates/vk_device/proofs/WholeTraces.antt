@@ -8,12 +8,11 @@ use Rattle.vk_model.specs.Memory.HeapSizes.{HeapSizes}
 use Rattle.vk_model.specs.declared.entry.Entry.{Entry}
 use Rattle.vk_model.specs.declared.entry.Entry.TheVariants as entry
 use Rattle.vk_model.specs.Basics.{holds}
-use Rattle.vk_model.specs.Trace.Point.{Past, Action, Host, Wait, Run, Signal, host_of}
-use Rattle.vk_model.specs.Trace.Order.{Front, after_entry, order, host}
-use Rattle.vk_model.proofs.Trace.Growing.{Quiet, entry_grows, order_append}
-use Rattle.vk_model.proofs.Lists.Pairs.{Each}
+use Rattle.vk_model.specs.Trace.Order.{Front, after_entry, order}
+use Rattle.vk_model.proofs.Trace.Growing.{order_append}
 use Rattle.vk_model.specs.World.Effect.{world}
-use Rattle.vk_model.specs.World.Meaning.{Reads, reads, read_by, read_in, meaning}
+use Rattle.vk_model.specs.World.Meaning.{Reads, reads, read_in, meaning}
+use Rattle.vk_cache_laws.proofs.NextReads.{reads_next}
 use Rattle.vk_model.specs.Memory.Allocations.{Allocated, ReachesWith, FindsNoRoom, Changes, nothing_allocated, heaps_of, parts_after}
 use Rattle.vk_model.specs.Memory.PassLaws.{PartsFollow}
 use Rattle.vk_model.specs.Run.Runs.{Step, Stage, start}
@@ -35,21 +34,6 @@ use Rattle.vk_device.specs.declared.device.Device.{Device}
 use Rattle.vk_device.specs.Led as led
 use Rattle.vk_device.specs.Led.{Led, IsBefore, IsNext, IsSoundTrace, Applies}
 use Rattle.vk_device.specs.Replays.{Ends}
-
--- only host entries read
-quiet_reads : (newer past : Past) → Each Quiet newer → reads (newer ++ past) ≡ reads past
-quiet_reads [] past each = refl
-quiet_reads (p ∷ newer) past each = ap (λ (r : Reads). reads (newer ++ past) ++ r) (mute p.action each.0) ∙ append-nil (reads (newer ++ past)) ∙ quiet_reads newer past each.1
-  where
-    mute : (a : Action) → host_of a ≡ None → read_by (world (newer ++ past)) p.entry a ≡ []
-    mute (Host x) none = absurd cc
-    mute (Wait w) none = refl
-    mute (Run c) none = refl
-    mute (Signal w) none = refl
-
--- the reads after one entry more
-reads_next : (e : ℕ) (x : Entry) (f : Front) → reads (after_entry e x f).past ≡ reads f.past ++ read_in (world f.past) e x
-reads_next e x f = let g = entry_grows e x f in ap reads g.whole ∙ quiet_reads g.newer (host e x ∷ f.past) g.each
 
 -- a stop that isn't before an entry
 abbrev NotBefore : ℕ → Option ℕ → Type 0

@@ -5,10 +5,11 @@ ghost use Rattle.vk_trace.specs.declared.printing.Outcome.{Outcome};
 ghost use Rattle.vk_trace.specs.Trace.{IsTrace};
 ghost use Rattle.vk_trace.specs.Watching.{counted};
 ghost use Rattle.vk_trace.specs.Streams.{IsBeforeWriting, IsJudged};
-ghost use Rattle.vk_run.specs.Run.{Reports, IsAnswer, Leaves, status_of};
+ghost use Rattle.vk_run.specs.Run.{Reports, IsAnswer, IsAnswerThroughCaches, Leaves, status_of};
 
 use std::alloc::{AllocError, Global};
 use std::io::{Read, Write};
+use vk_cache_laws::cached_runs_read_the_meaning;
 use vk_device::{Replayed, replay};
 use vk_model::{Config, Entry, Scheduler, parts_follow};
 use vk_trace::{Outcome, ReadTraceError, RunError, Watched, read_all, read_trace, text, write_all};
@@ -132,9 +133,12 @@ pub fn outcome_of<S: Scheduler>(
     sched: &mut S,
 ) -> Result<Outcome, AllocError>
     ensures answer { IfOk result (IsAnswer config entries.now) }
+    // The same is read on a device whose queues each keep a write-back cache.
+    ensures caches { IfOk result (IsAnswerThroughCaches entries.now) }
     ensures view { IfOk result (λ outcome. Leaves config S.answer S.next entries.now outcome (S.held sched.old) (S.held sched.new)) }
 {
     parts_follow();
+    cached_runs_read_the_meaning();
     match validate(alloc, entries)? {
         Verdict::Refused(at, rule) => Ok(Outcome::Refused(at, rule)),
         Verdict::Accepted(accepted) => match replay(alloc, &accepted, config, sched) {

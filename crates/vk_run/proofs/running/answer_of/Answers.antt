@@ -15,6 +15,7 @@ returns-clause-answered g c =
       entries = c.in_ok-entries.entries.items;
       trace = c.in_ok-entries.ensures.ok;
       answer = rw same at c.in_ok-outcome.ensures.answer;
+      caches = rw same at c.in_ok-outcome.ensures.caches;
       lines = c.in_ok-text.ensures;
     } in
     (c.in_ok-outcome.outcome, reports, c.answer_status-status.ensures, rw same at c.in_ok-outcome.ensures.view)

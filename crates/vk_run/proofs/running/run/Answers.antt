@@ -26,6 +26,7 @@ returns-in-Ok-clause-done g c =
       entries = reports.entries;
       trace = let P : List ℕ → Type 0 = λ bs. IsTrace bs reports.entries in subst P (c.deref.ensures.value ∙ sym same) reports.trace;
       answer = reports.answer;
+      caches = reports.caches;
       lines = reports.lines;
     } in
     (text, answered.0, reported, answered.2, answered.3, rw c.as_bytes.ensures.value at c.in_ok-write_all-in-Ok.ensures.ok, rw c.as_bytes.ensures.value at c.in_ok-write_all-in-Ok.ensures.calls) in
