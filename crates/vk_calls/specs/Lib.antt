@@ -1,0 +1,4 @@
+pub mod Calls
+pub mod CalledText
+pub mod CalledObject
+pub mod Inner
