@@ -1,0 +1,4 @@
+mod Joins
+mod NamesApart
+mod Telling
+mod TellingBatches
