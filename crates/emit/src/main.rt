@@ -2,17 +2,15 @@
 #![tactic(auto)]
 
 mod exit;
-mod headers;
 mod options;
 
 use exit::exit_status;
-use headers::header_of;
 use options::Options;
 use std::alloc::AllocError;
 use std::io;
 use std::process::ExitCode;
 use std::rt::{Env, Files};
-use vk_console::{arguments, complain, refuse};
+use vk_console::{arguments, bytes_of_file, complain, refuse};
 use vk_emit::{Emitted, Wanted, run};
 use vk_trace::{RunError, Watched};
 use vk_words::push_at;
@@ -29,7 +27,7 @@ fn perform<R: Env + Files + Input + Print + Eprint + AllocGlobal>(rt: &R) -> u8 
     };
     match options.header {
         None => emit(rt, &options, None),
-        Some(name) => match header_of(rt, name) {
+        Some(name) => match bytes_of_file(rt, name) {
             Ok(header) => emit(rt, &options, Some(header.as_slice())),
             Err(status) => status,
         },

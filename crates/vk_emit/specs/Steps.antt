@@ -4,8 +4,8 @@ use Rattle.std.specs.List.{fold}
 use Rattle.vk_model.specs.Trace.Point.{Past}
 use Rattle.vk_model.specs.Trace.Order.{host, started}
 use Rattle.vk_queues.specs.PointViews.{batch_of}
-use Rattle.vk_emit.specs.declared.planning.Step.{Step}
-use Rattle.vk_emit.specs.declared.planning.Step.TheVariants as step
+use Rattle.vk_row_text.specs.declared.steps.Step.{Step}
+use Rattle.vk_row_text.specs.declared.steps.Step.TheVariants as step
 
 -- The past after a step: the point of an entry, or the waits, the commands and the signals of a batch (Vulkan, "Queue Submission").
 abbrev pub after_step : Past → Step → Past

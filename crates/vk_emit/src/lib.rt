@@ -2,16 +2,11 @@
 //! have to give.
 #![tactic(auto)]
 
-mod batches;
-mod bytes;
-mod elements;
-mod entries;
-mod items;
 mod planning;
 mod running;
 mod texts;
-mod words;
 
-pub use planning::{Plan, Step, plan_of};
+pub use planning::{Plan, plan_of};
 pub use running::{Emitted, Program, Wanted, program_of, run};
 pub use texts::program_text;
+pub use vk_row_text::Step;

@@ -7,18 +7,10 @@ ghost use Rattle.vk_emit.specs.Plans.{IsPlan, performed};
 
 use std::alloc::{AllocError, Global};
 use vk_model::{Config, Entry, First};
-use vk_queues::{Submitted, Waiting};
+use vk_queues::Waiting;
+use vk_row_text::Step;
 use vk_run::outcome_of;
 use vk_trace::Outcome;
-
-/// One step of a plan.
-#[derive(Drop)]
-pub enum Step<'a> {
-    /// The entry of this number. A submit does nothing by itself: its batches are steps of their own.
-    Entry(usize, &'a Entry),
-    /// A batch, where it can be started: its waits, its commands, its signals.
-    Batch(Submitted<'a>),
-}
 
 /// What is performed of a trace, and what it has to give.
 #[derive(Drop)]

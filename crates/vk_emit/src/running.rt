@@ -4,7 +4,7 @@ ghost use Rattle.vk_model.specs.declared.entry.Entry.{Entry};
 ghost use Rattle.vk_trace.specs.Trace.{IsTrace};
 ghost use Rattle.vk_trace.specs.Watching.{counted};
 ghost use Rattle.vk_trace.specs.Streams.{IsBeforeWriting, IsJudged};
-ghost use Rattle.vk_emit.specs.Plans.{Emits, emitted_of};
+ghost use Rattle.vk_emit.specs.Plans.{Emits, emitted_of, is_accepted, text_of};
 
 use crate::planning::{Plan, plan_of};
 use crate::texts::program_text;
@@ -57,8 +57,11 @@ pub fn run<R: Read, W: Write>(
 ) -> Result<Emitted, RunError>
     requires reads { reader.old.failed ≡ false }
     requires writes { writer.old.failed ≡ false }
-    // The bytes that were read are a trace, and what was written is by the answer to it.
-    ensures done { IfOk result (λ emitted. IfSome (R.remaining reader.old.inner) (λ input. Emits config input emitted)) }
+    // The bytes that were read are a trace, and the text of a plan of it is written, by the answer to it,
+    // and nothing else.
+    ensures done { IfOk result (λ emitted. IfSome (R.remaining reader.old.inner) (λ input.
+        (text : List ℕ) × Emits config input wanted.entry emitted text
+        × Appends (W.contents writer.old.inner) (W.contents writer.new.inner) text)) }
     // There is no trace only where the bytes are none.
     ensures no_trace { result ≡ Err RunError.NotTrace
         → IfSome (R.remaining reader.old.inner) (λ input. (t : List Entry) → IsTrace input t → ⊥) }
@@ -93,7 +96,7 @@ pub fn program_of(
     config: Config,
     wanted: Wanted<'_>,
 ) -> Result<Program, ReadTraceError>
-    ensures emitted { IfOk result (λ p. Emits config input.now p.emitted) }
+    ensures emitted { IfOk result (λ p. Emits config input.now wanted.entry p.emitted p.text.items) }
     ensures no_trace { result ≡ Err ReadTraceError.NotTrace → (t : List Entry) → IsTrace input.now t → ⊥ }
 {
     let entries = read_trace(alloc, input)?;
@@ -115,9 +118,22 @@ fn emitted_of(outcome: &Outcome) -> Emitted
 }
 
 /// The text of a plan, but of a refused trace where it isn't asked for.
-fn text_of(alloc: Global, plan: &Plan<'_>, wanted: Wanted<'_>) -> Result<Vec<u8>, AllocError> {
-    match &plan.outcome {
-        Outcome::Refused(_, _) if !wanted.refused => Ok(Vec::new(alloc)),
-        _ => program_text(alloc, plan, wanted.header),
+fn text_of(alloc: Global, plan: &Plan<'_>, wanted: Wanted<'_>) -> Result<Vec<u8>, AllocError>
+    ensures { IfOk result (λ text. text.items ≡ text_of wanted.entry plan.now) }
+{
+    if wanted.refused || is_accepted(&plan.outcome) {
+        program_text(alloc, plan, wanted.header)
+    } else {
+        Ok(Vec::new(alloc))
+    }
+}
+
+/// Whether reads are promised.
+fn is_accepted(outcome: &Outcome) -> bool
+    ensures { result ≡ is_accepted outcome.now }
+{
+    match outcome {
+        Outcome::Reads(_, _) => true,
+        Outcome::Refused(_, _) => false,
     }
 }

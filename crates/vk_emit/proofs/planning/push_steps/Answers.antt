@@ -4,7 +4,7 @@ use Rattle.vk_model.specs.Trace.Order.{Front, SubmittedBatch, started, next_batc
 use Rattle.vk_queues.specs.PointViews.{batch_of}
 use Rattle.vk_queues.specs.IsWaiting.{IsWaiting}
 use Rattle.vk_queues.proofs.Laying.{settled_none, settled_some}
-use Rattle.vk_emit.specs.declared.planning.Step.TheVariants as step
+use Rattle.vk_row_text.specs.declared.steps.Step.TheVariants as step
 use Rattle.vk_emit.specs.Steps.{past_with}
 use Rattle.vk_emit.proofs.Stepping.{past_with-push}
 use Rattle.vk_emit.proofs.planning.push_steps.Goals as goal

@@ -10,11 +10,12 @@ returns-in_err-entries-clause-no_trace c = λ e.
 pub returns-clause-emitted : goal.returns-clause-emitted
 returns-clause-emitted c =
     let same = c.deref.ensures.value in
-    let emits : Emits c.args.config c.args.input.now c.emitted_of-emitted.result = record {
+    let emits : Emits c.args.config c.args.input.now c.args.wanted c.emitted_of-emitted.result c.in_ok-text.text.items = record {
       entries = c.in_ok-entries.entries.items;
       trace = c.in_ok-entries.ensures.ok;
-      outcome = c.in_ok-plan.plan.outcome;
-      answer = rw same at c.in_ok-plan.ensures.answer;
+      plan = c.in_ok-plan.plan;
+      planned = rw same at c.in_ok-plan.ensures;
       same = c.emitted_of-emitted.ensures;
+      is_text = c.in_ok-text.ensures;
     } in
     emits
