@@ -1,5 +1,5 @@
 #!/usr/bin/env python3
-"""Tests the command line of `explain`: `explain [--json] [--repaired] [FILE]..`.
+"""Tests the command line of `explain`: `explain [--json] [--repaired] [--names FILE] [FILE]..`.
 
     EXPLAIN=FILE tests/explain_options.py
 """
@@ -154,7 +154,7 @@ def help_tests():
 def judge_help(arguments):
     """The help names each option and the files."""
     answer = run([EXPLAIN, *arguments])
-    words = (b"[OPTIONS] [FILE]...", b"--json", b"--repaired", b"--help", b"--version")
+    words = (b"[OPTIONS] [FILE]...", b"--json", b"--repaired", b"--names <FILE>", b"--help", b"--version")
     missing = [word for word in words if word not in answer.output]
     if missing:
         return f"the help has no {shown(missing[0])}: {answer}"
@@ -319,9 +319,12 @@ def judge_untyped():
 
 def all_tests():
     """All of them."""
+    from explain_names import names_tests  # (which uses what stands here)
+
     yield from file_tests()
     yield from several_tests()
     yield from unreadable_tests()
+    yield from names_tests()
     yield from help_tests()
     yield from refused_tests()
     yield from terminal_tests()

@@ -7,6 +7,7 @@ use std::fs::{File, OpenFile};
 use std::io;
 use std::io::Read;
 use std::rt::{Env, Files};
+use vk_calls::Calls;
 use vk_console::{complain, error_status};
 use vk_explain::{Presentation, Wanted, run};
 use vk_trace::{RunError, Watched};
@@ -37,10 +38,12 @@ impl Course {
     }
 }
 
-/// Explains the traces of some files one after another. Answers the greatest of their exit statuses.
+/// Explains the traces of some files one after another, with the calls of their points if there are any.
+/// Answers the greatest of their exit statuses.
 pub fn explain_all<R: Env + Files + Input + Print + Eprint + AllocGlobal>(
     rt: &R,
     wanted: Wanted,
+    calls: Option<&Calls>,
     files: &[&str],
     terminals: Terminals,
 ) -> u8 {
@@ -55,6 +58,7 @@ pub fn explain_all<R: Env + Files + Input + Print + Eprint + AllocGlobal>(
             name: if files.len() > 1 { Some(*file) } else { None },
             is_first: course.is_first,
             is_coloured,
+            calls,
         };
         course = if *file == STANDARD_INPUT {
             explain_input(rt, wanted, &presentation, course, terminals)

@@ -4,10 +4,12 @@
 
 mod exit;
 mod inputs;
+mod names;
 mod options;
 mod terminals;
 
 use inputs::explain_all;
+use names::calls_of_file;
 use options::Options;
 use std::io;
 use std::process::ExitCode;
@@ -26,8 +28,25 @@ fn perform<R: Env + Files + Input + Print + Eprint + AllocGlobal>(
         Err(status) => return status,
     };
     match options::read(rt.alloc(), arguments.as_slice()) {
-        Ok(Options { wanted, files }) => explain_all(rt, wanted, files.as_slice(), terminals),
+        Ok(options) => explain(rt, &options, terminals),
         Err(error) => answer(rt, error),
+    }
+}
+
+/// Explains traces, with the calls of their points where a file of them is named, and answers the exit
+/// status.
+fn explain<R: Env + Files + Input + Print + Eprint + AllocGlobal>(
+    rt: &R,
+    options: &Options<'_>,
+    terminals: Terminals,
+) -> u8 {
+    let files = options.files.as_slice();
+    match options.names {
+        None => explain_all(rt, options.wanted, None, files, terminals),
+        Some(name) => match calls_of_file(rt, name) {
+            Ok(calls) => explain_all(rt, options.wanted, Some(&calls), files, terminals),
+            Err(status) => status,
+        },
     }
 }
 

@@ -9,6 +9,8 @@ use vk_explain::{Form, Wanted};
 pub struct Options<'a> {
     /// What is asked of each trace.
     pub wanted: Wanted,
+    /// The file with the calls that points stand for, if one is named.
+    pub names: Option<&'a str>,
     /// The files of the traces, in this order; standard input where none is named.
     pub files: Vec<&'a str>,
 }
@@ -20,7 +22,7 @@ pub const STANDARD_INPUT: &str = "-";
 const STATUSES: &str = "\
 Exit status: 0 if each trace is accepted, 1 if one breaks a rule, 2 if an input isn't a valid trace,
 4 if memory runs out, 5 if a file can't be read or the output can't be written, 6 if the command line
-is refused. Of several traces it is the greatest.";
+is refused, 7 if the file of --names isn't such a file. Of several traces it is the greatest.";
 
 /// The command line of `explain`.
 fn command<'a>(alloc: Global) -> Result<Command<'a>, AllocError> {
@@ -33,6 +35,11 @@ fn command<'a>(alloc: Global) -> Result<Command<'a>, AllocError> {
         .action(ArgAction::SetTrue)
         .conflicts_with("json")?
         .help("Print the trace with the repairs applied, and nothing else");
+    let names = Arg::new(alloc, "names")
+        .long("names")
+        .value_name("FILE")
+        .conflicts_with("repaired")?
+        .help("Say which call of a capture each point is, by a file of from_capture.py --names");
     let files = Arg::new(alloc, "file")
         .value_name("FILE")
         .num_args(0..)
@@ -46,6 +53,7 @@ fn command<'a>(alloc: Global) -> Result<Command<'a>, AllocError> {
         .after_help(STATUSES)
         .arg(json)?
         .arg(repaired)?
+        .arg(names)?
         .arg(files)
 }
 
@@ -60,7 +68,12 @@ pub fn read<'a>(alloc: Global, arguments: &'a [String]) -> Result<Options<'a>, O
         let error = command.error(ErrorKind::ArgumentConflict, message)?;
         return Err(OptionsError::Refused(error));
     }
-    Ok(Options { wanted, files })
+    let names = matches.get_str("names");
+    Ok(Options {
+        wanted,
+        names,
+        files,
+    })
 }
 
 fn wanted_by(matches: &ArgMatches<'_>) -> Wanted {

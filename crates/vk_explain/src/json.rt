@@ -4,14 +4,16 @@ ghost use Rattle.vk_fact_words.specs.FactText.{fact_member as text_of_fact};
 ghost use Rattle.vk_fact_words.specs.LinksText.{links_member as text_of_links};
 ghost use Rattle.vk_explain.specs.Explained.{json_verdict, IsRefusalJson, IsAcceptanceJson};
 
-use crate::places::place_of;
+use crate::identifiers::push_identifier_members;
+use crate::places::{place_of, push_pointer};
 use crate::repairs::{EditWords, RepairSearch, RepairWords, sought, words_of};
 use std::alloc::{AllocError, Global};
 use vk_fact_words::{
-    cause_member, fact_member, links_member, links_of_fact, measure_member, push_quoted,
-    state_member,
+    cause_member, either_way_member, fact_member, links_member, links_of_fact, measure_member,
+    points_named, push_quoted, state_member,
 };
 use vk_facts::{Fact, fact_of_fault};
+use vk_identifiers::is_unknown_here;
 use vk_links::Links;
 use vk_model::{At, Entry, Rule};
 use vk_notes::{Summary, note_words, notes_of, summary_of};
@@ -32,9 +34,70 @@ pub fn refusal_json(
     let fact = fact_of_fault(alloc, trace, at, rule)?;
     let links = links_of_fact(alloc, trace, at, rule, &fact)?;
     let mut text = first_members(alloc, at, rule, &fact, &links)?;
-    let members = point_members(alloc, input, trace, at, rule)?;
+    let members = later_members(alloc, input, trace, (at, rule), &fact)?;
     text.push_str(members.as_str())?;
     Ok(text)
+}
+
+/// The members behind the fact and its links, and the end of the object.
+fn later_members(
+    alloc: Global,
+    input: &[u8],
+    trace: &[Entry],
+    fault: (At, Rule),
+    fact: &Option<Fact<'_>>,
+) -> Result<String, AllocError>
+    requires { first_fault trace.now ≡ Some fault }
+{
+    let points = points_named(alloc, fact)?;
+    let mut members = named_members(alloc, input, trace, points.as_slice())?;
+    let either_way = either_way_member(alloc, fact)?;
+    members.push_str(either_way.as_str())?;
+    let (at, rule) = fault;
+    let others = point_members(alloc, input, trace, at, rule)?;
+    members.push_str(others.as_str())?;
+    Ok(members)
+}
+
+/// The member with the points that a fact names, where it names some: each with its place in the input
+/// and in words.
+fn named_members(
+    alloc: Global,
+    input: &[u8],
+    trace: &[Entry],
+    points: &[At],
+) -> Result<String, AllocError> {
+    let mut member = String::new(alloc);
+    for (number, at) in points.iter().enumerate() {
+        member.push_str(if number == 0 {
+            ",\"named\":[{\"at\":\""
+        } else {
+            ",{\"at\":\""
+        })?;
+        push_at(&mut member, *at)?;
+        member.push_str("\"")?;
+        push_place(&mut member, input, *at)?;
+        member.push_str(",\"point\":")?;
+        let words = point_words(alloc, trace, *at)?;
+        push_quoted(alloc, &mut member, words)?;
+        member.push_str("}")?;
+    }
+    if !points.is_empty() {
+        member.push_str("]")?;
+    }
+    Ok(member)
+}
+
+/// Adds the members with the place of a point in the input, where it has one.
+fn push_place(members: &mut String, input: &[u8], at: At) -> Result<(), AllocError> {
+    match place_of(input, at) {
+        Some(place) => {
+            let line = place.line;
+            let column = place.column;
+            write!(members, ",\"line\":{line},\"column\":{column}")
+        }
+        None => Ok(()),
+    }
 }
 
 /// The members that say the verdict, with a fact and its links.
@@ -90,11 +153,8 @@ fn point_members(
     requires { first_fault trace.now ≡ Some (at, rule) }
 {
     let mut members = String::new(alloc);
-    if let Some(place) = place_of(input, at) {
-        let line = place.line;
-        let column = place.column;
-        write!(members, ",\"line\":{line},\"column\":{column}")?;
-    }
+    push_place(&mut members, input, at)?;
+    push_identifier_members(alloc, &mut members, trace, at, rule)?;
     let measure = measure_member(alloc, trace, at, rule)?;
     members.push_str(measure.as_str())?;
     let state = state_member(alloc, trace, at, rule)?;
@@ -123,6 +183,9 @@ fn push_repair(
 ) -> Result<(), AllocError>
     requires { first_fault trace.now ≡ Some (at, rule) }
 {
+    if is_unknown_here(trace, at, rule) {
+        return members.push_str(",\"repair\":null");
+    }
     let found = sought(alloc, trace, at, rule)?;
     let RepairSearch::Found(found) = found else {
         return members.push_str(",\"repair\":null");
@@ -146,10 +209,26 @@ fn push_repair(
     members.push_str("]}")
 }
 
-/// The object on an edit: what is done in words, and what is put in as a trace has it.
+/// The object on an edit: an operation of JSON Patch with its path, the point, what is done in words,
+/// and what is put in as a trace has it.
 fn push_edit(alloc: Global, members: &mut String, edit: EditWords) -> Result<(), AllocError> {
-    let EditWords { point, value } = edit;
-    members.push_str("{\"edit\":")?;
+    let EditWords {
+        operation,
+        at,
+        point,
+        value,
+    } = edit;
+    members.push_str("{\"op\":\"")?;
+    members.push_str(operation)?;
+    members.push_str("\"")?;
+    if let Some(at) = at {
+        members.push_str(",\"path\":\"")?;
+        push_pointer(members, at)?;
+        members.push_str("\",\"at\":\"")?;
+        push_at(members, at)?;
+        members.push_str("\"")?;
+    }
+    members.push_str(",\"edit\":")?;
     push_quoted(alloc, members, point)?;
     if let Some(value) = value {
         members.push_str(",\"value\":")?;

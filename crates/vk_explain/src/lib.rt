@@ -4,6 +4,7 @@
 mod colours;
 mod explaining;
 mod forms;
+mod identifiers;
 mod json;
 mod listing;
 mod mending;
@@ -16,5 +17,5 @@ mod reports;
 pub use explaining::{Explanation, Judgment, explanation_of, run};
 pub use forms::{Form, Wanted};
 pub use mending::repaired_of;
-pub use places::{InputPlace, place_of};
+pub use places::{InputPlace, line_and_column, place_of};
 pub use presentation::Presentation;

@@ -22,6 +22,16 @@ pub fn place_of(input: &[u8], at: At) -> Option<InputPlace> {
     Some(line_and_column(input, start))
 }
 
+/// Adds the JSON pointer (RFC 6901) to a point in a trace.
+pub(crate) fn push_pointer(out: &mut String, at: At) -> Result<(), AllocError> {
+    match at {
+        At::Entry(e) => write!(out, "/{e}"),
+        At::Command(e, b, c) => write!(out, "/{e}/2/{b}/1/{c}"),
+        At::Wait(e, b, k) => write!(out, "/{e}/2/{b}/0/{k}"),
+        At::Signal(e, b, k) => write!(out, "/{e}/2/{b}/2/{k}"),
+    }
+}
+
 /// Where the member that these numbers lead to is written, in a text of JSON without objects.
 pub(crate) fn place_of_member(
     alloc: Global,

@@ -1,11 +1,19 @@
 ghost use Rattle.std.specs.Prelude.{◌≡◌, ◌++◌, IfOk, codes, drop, option_map};
-ghost use Rattle.vk_explain.specs.Presented.{heading_of, AreLines, IsNamed, IsPresented};
-ghost use Rattle.vk_explain.specs.declared.forms.Form.TheVariants.{Text};
+ghost use Rattle.vk_explain.specs.Presented.{
+  heading_of,
+  AreCalled,
+  AreLines,
+  IsCalledObject,
+  IsNamed,
+  IsPresented,
+};
+ghost use Rattle.vk_explain.specs.declared.forms.Form.TheVariants.{Json, Text};
 ghost use Rattle.vk_explain.specs.declared.forms.Wanted.TheVariants.{Explained};
 
 use crate::colours::coloured;
 use crate::forms::{Form, Wanted};
 use std::alloc::{AllocError, Global};
+use vk_calls::{Calls, with_calls, with_calls_member};
 use vk_fact_words::push_quoted;
 
 /// How what is said of an input is written beside what is said of others.
@@ -17,9 +25,11 @@ pub struct Presentation<'a> {
     pub is_first: bool,
     /// Whether lines have colours of a terminal. Objects and traces have none.
     pub is_coloured: bool,
+    /// The calls that its points stand for, if they are to be said. Traces have none.
+    pub calls: Option<&'a Calls>,
 }
 
-/// What is asked of an input, with the name of the input and in colours.
+/// What is asked of an input, with the calls of its points, with the name of the input and in colours.
 pub fn presented(
     alloc: Global,
     text: &[u8],
@@ -30,7 +40,7 @@ pub fn presented(
 {
     match wanted {
         Wanted::Explained(Form::Text) => with_heading(alloc, text, presentation),
-        Wanted::Explained(Form::Json) => with_name(alloc, text, presentation.name),
+        Wanted::Explained(Form::Json) => as_object(alloc, text, presentation),
         Wanted::Repaired => text.to_vec(alloc),
     }
 }
@@ -44,9 +54,42 @@ fn with_heading(
     ensures { IfOk result (λ shown. IsPresented (Explained Text) presentation.now text.now shown.items) }
 {
     let mut all = heading(alloc, presentation.name, presentation.is_first)?;
-    let lines = lines_of(alloc, text, presentation.is_coloured)?;
+    let called = called_lines(alloc, text, presentation.calls)?;
+    let lines = lines_of(alloc, &called, presentation.is_coloured)?;
     all.extend_from_slice(&lines)?;
     Ok(all)
+}
+
+/// Lines with the calls of points, where there are calls.
+fn called_lines(alloc: Global, text: &[u8], calls: Option<&Calls>) -> Result<Vec<u8>, AllocError>
+    ensures { IfOk result (λ called. AreCalled (option_map (λ c. c.now) calls.entry) text.now called.items) }
+{
+    match calls {
+        Some(calls) => with_calls(alloc, calls, text),
+        None => text.to_vec(alloc),
+    }
+}
+
+/// An object with a name, and with the calls of points.
+fn as_object(
+    alloc: Global,
+    text: &[u8],
+    presentation: &Presentation<'_>,
+) -> Result<Vec<u8>, AllocError>
+    ensures { IfOk result (λ shown. IsPresented (Explained Json) presentation.now text.now shown.items) }
+{
+    let called = called_object(alloc, text, presentation.calls)?;
+    with_name(alloc, &called, presentation.name)
+}
+
+/// An object with the calls of points, where there are calls.
+fn called_object(alloc: Global, text: &[u8], calls: Option<&Calls>) -> Result<Vec<u8>, AllocError>
+    ensures { IfOk result (λ called. IsCalledObject (option_map (λ c. c.now) calls.entry) text.now called.items) }
+{
+    match calls {
+        Some(calls) => with_calls_member(alloc, calls, text),
+        None => text.to_vec(alloc),
+    }
 }
 
 /// The line with a name, below an empty line where something comes before.

@@ -5,6 +5,7 @@ ghost use Rattle.vk_explain.specs.Inner.Repaired.{IsSought};
 use crate::listing::{Listed, in_listed_order};
 use std::alloc::{AllocError, Global};
 use vk_edits::{Change, Edit, Member};
+use vk_identifiers::is_unknown_here;
 use vk_model::{At, Entry, Rule};
 use vk_notes::summary_of;
 use vk_repairs::{Repair, repair};
@@ -31,7 +32,12 @@ pub enum RepairSearch {
 /// An edit of a repair.
 #[derive(Drop)]
 pub struct EditWords {
-    /// What is done, and the point that it puts in or takes out.
+    /// What is done, as an operation of JSON Patch (RFC 6902).
+    pub operation: &'static str,
+    /// The point that it puts in or takes out, by the numbers that points have when the edits before it
+    /// are made; none where a number would be too large.
+    pub at: Option<At>,
+    /// What is done, and that point.
     pub point: String,
     /// What is put in, as JSON.
     pub value: Option<String>,
@@ -79,6 +85,12 @@ pub fn repair_lines(
 ) -> Result<String, AllocError>
     requires { first_fault trace.now ≡ Some (at, rule) }
 {
+    if is_unknown_here(trace, at, rule) {
+        return String::from_str(
+            alloc,
+            "  repair: none is offered, as it would take out what isn't judged here\n",
+        );
+    }
     match sought(alloc, trace, at, rule)? {
         RepairSearch::Found(found) => {
             let words = words_of(alloc, trace, &found)?;
@@ -162,7 +174,12 @@ pub fn words_of(alloc: Global, trace: &[Entry], found: &Repair) -> Result<Repair
         let edit = found.edits.get(one.number);
         let point = edit_words(alloc, trace, found, *one)?;
         let value = value_of(alloc, edit)?;
-        edits.push(EditWords { point, value })?;
+        edits.push(EditWords {
+            operation: operation_of(edit),
+            at: one.at,
+            point,
+            value,
+        })?;
     }
     Ok(RepairWords {
         then,
@@ -202,6 +219,17 @@ fn edit_words(
         ),
         Some(Edit::Remove { .. }) => changed_words(alloc, trace, "remove: ", listed.at),
         None => String::from_str(alloc, ""),
+    }
+}
+
+/// What an edit does to the array that it changes.
+fn operation_of(edit: Option<&Edit>) -> &'static str {
+    match edit {
+        Some(Edit::Entry { change, .. } | Edit::Member { change, .. }) => match change {
+            Change::Insert => "add",
+            Change::Replace => "replace",
+        },
+        Some(Edit::Remove { .. }) | None => "remove",
     }
 }
 

@@ -5,11 +5,13 @@ ghost use Rattle.vk_fact_words.specs.FactText.{fact_line as text_of_fact};
 ghost use Rattle.vk_fact_words.specs.LinksText.{links_line as text_of_links};
 ghost use Rattle.vk_explain.specs.Explained.{rule_line, IsRefusalText, IsAcceptanceText};
 
+use crate::identifiers::identifier_lines;
 use crate::places::place_of;
 use crate::repairs::repair_lines;
 use std::alloc::{AllocError, Global};
 use vk_fact_words::{
-    cause_lines, fact_line, links_line, links_of_fact, measure_line, point_lines, state_line,
+    cause_lines, either_way_line, fact_line, links_line, links_of_fact, measure_line, points_named,
+    state_line,
 };
 use vk_facts::{Fact, fact_of_fault};
 use vk_links::Links;
@@ -37,7 +39,7 @@ pub fn refusal_text(
     let links = links_of_fact(alloc, trace, at, rule, &fact)?;
     let ruled = ruled_lines(alloc, rule, &fact, &links)?;
     text.push_str(ruled.as_str())?;
-    let points = point_lines(alloc, trace, &fact)?;
+    let points = point_lines(alloc, input, trace, &fact)?;
     text.push_str(points.as_str())?;
     let more = more_lines(alloc, trace, at, rule)?;
     text.push_str(more.as_str())?;
@@ -73,11 +75,13 @@ fn reported_lines(
     Ok(lines)
 }
 
-/// The lines on what is compared, on a cause and on a repair, and the notes.
+/// The lines on what Vulkan says, on what is compared, on a cause and on a repair, and the notes.
 fn more_lines(alloc: Global, trace: &[Entry], at: At, rule: Rule) -> Result<String, AllocError>
     requires { first_fault trace.now ≡ Some (at, rule) }
 {
-    let mut lines = measure_line(alloc, trace, at, rule)?;
+    let mut lines = identifier_lines(alloc, trace, at, rule)?;
+    let measure = measure_line(alloc, trace, at, rule)?;
+    lines.push_str(measure.as_str())?;
     let state = state_line(alloc, trace, at, rule)?;
     lines.push_str(state.as_str())?;
     let causes = cause_lines(alloc, trace, at, rule)?;
@@ -97,6 +101,27 @@ fn point_line(alloc: Global, input: &[u8], trace: &[Entry], at: At) -> Result<St
     let place = place_words(alloc, input, at)?;
     line.push_str(place.as_str())?;
     Ok(line)
+}
+
+/// The points that a fact names, each on a line: in words, and where it is in the input; and of a hazard
+/// what the common byte may be.
+fn point_lines(
+    alloc: Global,
+    input: &[u8],
+    trace: &[Entry],
+    fact: &Option<Fact<'_>>,
+) -> Result<String, AllocError> {
+    let mut lines = String::new(alloc);
+    for at in &points_named(alloc, fact)? {
+        lines.push_str("    ")?;
+        let words = point_words(alloc, trace, *at)?;
+        lines.push_str(words.as_str())?;
+        let place = place_words(alloc, input, *at)?;
+        lines.push_str(place.as_str())?;
+    }
+    let either_way = either_way_line(alloc, fact)?;
+    lines.push_str(either_way.as_str())?;
+    Ok(lines)
 }
 
 /// Where the point is in the input, and the end of the line.

@@ -3,10 +3,10 @@ ghost use Rattle.vk_fact_words.specs.FactText as text;
 
 use std::alloc::{AllocError, Global};
 use vk_facts::{CounterFact, DeadId, Fact, HazardFact, Life, ObjectKind, StrayId};
-use vk_model::{At, Entry, Point};
+use vk_model::{At, Point};
 use vk_order::Byte;
 use vk_past::at_of;
-use vk_words::{kind_name, point_words, push_at, push_number};
+use vk_words::{kind_name, push_at, push_number};
 
 /// Adds what is said of a fact.
 pub fn push_fact(out: &mut String, fact: &Fact<'_>) -> Result<(), AllocError>
@@ -275,65 +275,40 @@ pub fn fact_member(alloc: Global, fact: &Option<Fact<'_>>) -> Result<String, All
     Ok(member)
 }
 
-/// The points that a fact names, in words, each on a line.
-pub fn point_lines(
-    alloc: Global,
-    trace: &[Entry],
-    fact: &Option<Fact<'_>>,
-) -> Result<String, AllocError> {
-    let mut lines = String::new(alloc);
+/// The points that a fact names, in the order in which they are told.
+pub fn points_named(alloc: Global, fact: &Option<Fact<'_>>) -> Result<Vec<At>, AllocError> {
+    let mut points = Vec::new(alloc);
     match fact {
-        Some(Fact::Hazard(hazard)) => {
-            push_line(alloc, &mut lines, trace, &hazard.earlier.row.point)?;
-        }
-        Some(Fact::Made(life)) => push_life_lines(alloc, &mut lines, trace, life)?,
-        Some(Fact::Dead(dead)) => push_dead_lines(alloc, &mut lines, trace, dead)?,
-        Some(Fact::Stray(stray)) => push_life_lines(alloc, &mut lines, trace, &stray.life)?,
+        Some(Fact::Hazard(hazard)) => points.push(at_of(&hazard.earlier.row.point))?,
+        Some(Fact::Made(life)) => push_life_points(&mut points, life)?,
+        Some(Fact::Dead(dead)) => push_dead_points(&mut points, dead)?,
+        Some(Fact::Stray(stray)) => push_life_points(&mut points, &stray.life)?,
         Some(Fact::Signaled(counter) | Fact::Waited(counter)) => {
             if let Some(last) = &counter.last {
-                push_line(alloc, &mut lines, trace, last)?;
+                points.push(at_of(last))?;
             }
         }
         None => {}
     }
-    Ok(lines)
+    Ok(points)
 }
 
-fn push_dead_lines(
-    alloc: Global,
-    lines: &mut String,
-    trace: &[Entry],
-    dead: &DeadId<'_>,
-) -> Result<(), AllocError> {
+fn push_dead_points(points: &mut Vec<At>, dead: &DeadId<'_>) -> Result<(), AllocError> {
     match (&dead.life.made, &dead.made_ever) {
-        (None, Some(late)) => push_line(alloc, lines, trace, late),
-        _ => push_life_lines(alloc, lines, trace, &dead.life),
+        (None, Some(late)) => {
+            points.push(at_of(late))?;
+            Ok(())
+        }
+        _ => push_life_points(points, &dead.life),
     }
 }
 
-fn push_life_lines(
-    alloc: Global,
-    lines: &mut String,
-    trace: &[Entry],
-    life: &Life<'_>,
-) -> Result<(), AllocError> {
+fn push_life_points(points: &mut Vec<At>, life: &Life<'_>) -> Result<(), AllocError> {
     if let Some(made) = &life.made {
-        push_line(alloc, lines, trace, made)?;
+        points.push(at_of(made))?;
     }
     if let Some(ended) = &life.ended {
-        push_line(alloc, lines, trace, ended)?;
+        points.push(at_of(ended))?;
     }
     Ok(())
-}
-
-fn push_line(
-    alloc: Global,
-    lines: &mut String,
-    trace: &[Entry],
-    point: &Point<'_>,
-) -> Result<(), AllocError> {
-    lines.push_str("    ")?;
-    let words = point_words(alloc, trace, at_of(point))?;
-    lines.push_str(words.as_str())?;
-    lines.push_str("\n")
 }

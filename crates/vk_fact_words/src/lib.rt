@@ -4,6 +4,7 @@
 #![tactic(auto)]
 
 mod causes;
+mod either_way;
 mod facts;
 mod links;
 mod measures;
@@ -11,7 +12,8 @@ mod quoting;
 mod states;
 
 pub use causes::{cause_lines, cause_member};
-pub use facts::{fact_line, fact_member, point_lines};
+pub use either_way::{either_way_line, either_way_member};
+pub use facts::{fact_line, fact_member, points_named};
 pub use links::{links_line, links_member, links_of_fact};
 pub use measures::{measure_line, measure_member};
 pub use quoting::push_quoted;
