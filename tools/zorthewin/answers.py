@@ -6,13 +6,15 @@ import subprocess
 from pathlib import Path
 from typing import List, NamedTuple, Optional, Tuple
 
+from .library import JSON, TEXT, library
+
 TOP = Path(__file__).resolve().parent.parent.parent
 # The exit statuses of `replay`.
 REPLAYED, REFUSED, NO_TRACE, STOPPED = 0, 1, 2, 3
 
 
 class Failed(RuntimeError):
-    """A program that didn't answer."""
+    """A program, or the C library, that didn't answer."""
 
 
 class Verdict(NamedTuple):
@@ -53,19 +55,46 @@ def run(program, variable, name, arguments, text):
     return ran.returncode, ran.stdout.decode()
 
 
+def named_library():
+    """The C library that is to answer, if one is named."""
+    try:
+        return library()
+    except (OSError, AttributeError) as error:
+        raise Failed(f"the C library can't be loaded: {error}") from error
+
+
+def answered(call, *arguments):
+    """What a call of the C library answers: its status and its text."""
+    try:
+        return call(*arguments)
+    except MemoryError as error:
+        raise Failed(str(error)) from error
+
+
+def explained(program, text, form):
+    """What `explain` says of a text, in a form: by the C library where there is one, else by the program."""
+    loaded = None if program else named_library()
+    if loaded:
+        return answered(loaded.explain, text, form)[1]
+    return run(program, "EXPLAIN", "explain", ["--json"] if form == JSON else [], text)[1]
+
+
 def judged(trace, program):
     """What `explain` says of a trace."""
     text = trace.json()
-    _, said = run(program, "EXPLAIN", "explain", ["--json"], text)
-    found = json.loads(said)
-    _, words = run(program, "EXPLAIN", "explain", [], text)
+    found = json.loads(explained(program, text, JSON))
+    words = explained(program, text, TEXT)
     at = found.get("at")
     return Verdict(found["verdict"] == "accepted", at, found.get("rule"), trace.site_of(at), words.strip(), found)
 
 
 def replayed(trace, program, order, seed):
     """What `replay` answers to a trace."""
-    status, said = run(program, "PROGRAM", "replay", ["--order", order, "--seed", str(seed)], trace.json())
+    loaded = None if program else named_library()
+    if loaded:
+        status, said = answered(loaded.replay, trace.json(), order, seed)
+    else:
+        status, said = run(program, "PROGRAM", "replay", ["--order", order, "--seed", str(seed)], trace.json())
     lines = [line.split() for line in said.splitlines()]
     if status == REFUSED:
         return Replay([], (lines[0][1], lines[0][2]), None)
