@@ -1,0 +1,23 @@
+"use strict";
+// What the module of a page answers to traces. Standard input is an object of JSON: the page's file (page), the
+// script over its module (script), and the traces (traces). Standard output is a list of JSON: of each trace what
+// explain says (text, json, repaired), what replay answers (first, last, seed), and what the page makes of it (shown).
+
+const { readFileSync } = require("fs");
+
+async function main() {
+  const asked = JSON.parse(readFileSync(0, "utf8"));
+  const { FORM, Library, judged, repaired, unpacked } = require(asked.script);
+  const packed = /<script type="text\/plain" id="module">([^<]*)<\/script>/.exec(readFileSync(asked.page, "utf8"))[1];
+  const library = await Library.of(await unpacked(packed));
+  const answers = asked.traces.map((text) => {
+    const trace = new TextEncoder().encode(text);
+    const [said, object] = [FORM.TEXT, FORM.JSON].map((form) => library.explain(trace, form));
+    const [first, last, seed] = [0, 1, 2].map((order) => library.replay(trace, order, 5n));
+    const [mended, shown] = [repaired(library, text), judged(library, text)];
+    return { text: said, json: object, repaired: mended, first, last, seed, shown };
+  });
+  process.stdout.write(JSON.stringify(answers));
+}
+
+main();

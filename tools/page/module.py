@@ -1,0 +1,143 @@
+"""The C library as a module of WebAssembly: of the proved sources, compiled another way than the programs are.
+
+The toolchain proves the crate zorthewin_c and lowers it to a module of LLVM. That module is kept, said to be for
+WebAssembly, and compiled for a memory of 64 bits by the toolchain's clang; binaryen (wasm-opt) makes that one of 32
+bits, which every engine has. No proof covers any of these steps.
+"""
+
+import os
+import re
+import shutil
+import subprocess
+import tempfile
+from pathlib import Path
+
+TOP = Path(__file__).resolve().parent.parent.parent
+CRATE = TOP / "crates" / "zorthewin_c"
+MODULE = "zorthewin.wasm"
+CALLS = ("zw_replay", "zw_explain", "zw_take", "zw_give")
+LAYOUT = "e-m:e-p:64:64-p10:8:8-p20:8:8-i64:64-i128:128-n32:64-S128-ni:1:10:20"
+TARGET = ["--no-default-config", "--target=wasm64-unknown-unknown", "-mcpu=lime1"]
+FEATURES = ("bulk-memory", "sign-ext", "mutable-globals", "nontrapping-float-to-int")
+# (what a module for x86-64 says of its functions, and WebAssembly doesn't know)
+FOREIGN = re.compile(r'"(?:probe-stack|stack-probe-size|target-cpu|frame-pointer)"="[^"]*" ?')
+STACK = 8 << 20
+# Keeps the module that the toolchain hands to its clang, and compiles nothing.
+KEEPER = """#!/bin/sh
+for word; do
+    case $word in
+    *.bc) cp "$word" '{kept}' ;;
+    esac
+done
+exit 1
+"""
+
+
+class Failed(RuntimeError):
+    """What can't be made, and why."""
+
+
+def shell(words):
+    """What the functions of tools/crates.sh print."""
+    said = subprocess.run(
+        ["sh", "-c", f'top=$1; . "$top/tools/crates.sh"; {words}', "sh", str(TOP)], stdout=subprocess.PIPE, check=True
+    )
+    return said.stdout.decode().split()
+
+
+def library_sum():
+    """The sum of what the library is built from."""
+    return shell("library_sum")[0]
+
+
+def is_of(folder, wanted):
+    """Whether a folder has the module of the sources with this sum."""
+    note = folder / "RELEASE"
+    return (folder / MODULE).exists() and note.exists() and f"module {wanted}" in note.read_text().splitlines()
+
+
+def found_module():
+    """The module of the sources as they are, of out/page or release, if there is one."""
+    wanted = library_sum()
+    return next((folder / MODULE for folder in (TOP / "out" / "page", TOP / "release") if is_of(folder, wanted)), None)
+
+
+def run(command, **where):
+    """Runs a step; what it says is shown where it fails."""
+    words = [str(it) for it in command]
+    ran = subprocess.run(words, stdout=subprocess.PIPE, stderr=subprocess.STDOUT, check=False, **where)
+    if ran.returncode != 0:
+        said = ran.stdout.decode(errors="replace").strip()[-2000:]
+        raise Failed(f"{os.path.basename(words[0])} ended with {ran.returncode}: {said}")
+
+
+def kept_module(kit, room):
+    """The module of LLVM that the toolchain makes of the crate, which it proves first."""
+    run(["rt", "lib"], cwd=CRATE)
+    tools, kept = room / "toolchain", room / "kept.bc"
+    (tools / "bin").mkdir(parents=True)
+    (tools / "lib").symlink_to(kit / "toolchain" / "lib")
+    for tool in (kit / "toolchain" / "bin").iterdir():
+        if tool.name != "clang":
+            (tools / "bin" / tool.name).symlink_to(tool)
+    (tools / "bin" / "clang").write_text(KEEPER.format(kept=kept))
+    (tools / "bin" / "clang").chmod(0o755)
+    crates = [name for name in shell("crates_of zorthewin_c") if name != CRATE.name]
+    words = ["--crate-name", CRATE.name, "src/lib.rt", "--extern", f"std={kit}/rlibs/std.rlib"]
+    words += ["-L", f"dependency={kit}/rlibs"]
+    named = next(line for line in (TOP / "crates.txt").read_text().splitlines() if line.startswith(f"{CRATE.name} "))
+    for name in named.partition(":")[2].split():
+        words += ["--extern", f"{name}={CRATE.parent}/{name}/out/rlib/{name}.rlib"]
+    for name in crates:
+        words += ["-L", f"dependency={CRATE.parent}/{name}/out/rlib"]
+    words += ["--antt-project", f"{kit}/rattle/logic/antt-project.json", "--logic-built", f"{kit}/logic_built"]
+    words += ["--links", f"{CRATE.name}=", "--crate-type", "staticlib", "--incremental", "out/incremental"]
+    words += ["--toolchain", tools, "--backend", "llvm", "-o", room / "none.a"]
+    try:
+        run([kit / "bin" / "rattle", "build", *words], cwd=CRATE)
+    except Failed as why:
+        if not kept.exists():
+            raise Failed(f"the toolchain handed no module to its clang: {why}") from why
+    return kept
+
+
+def retargeted(lines):
+    """The text of a module for x86-64 as that of one for WebAssembly."""
+    for line in lines:
+        if line.startswith("target datalayout"):
+            yield f'target datalayout = "{LAYOUT}"\n'
+        elif line.startswith("target triple"):
+            yield 'target triple = "wasm64-unknown-unknown"\n'
+        elif line.startswith("attributes"):
+            yield re.sub(r"\{\s*\}", "{ nounwind }", FOREIGN.sub("", line))
+        else:
+            yield line
+
+
+def make_module(to):
+    """Makes the module, and answers nothing."""
+    for tool in ("rt", "wasm-opt"):
+        if not shutil.which(tool):
+            raise Failed(f"this needs {tool}{', of binaryen' if tool == 'wasm-opt' else ', of the Rattle toolchain'}")
+    doc = subprocess.run(["rt", "doc"], stdout=subprocess.PIPE, check=True).stdout.decode().strip()
+    kit = Path(doc).resolve().parent
+    clang, linker = kit / "toolchain" / "bin" / "clang", kit / "toolchain" / "bin" / "ld.lld"
+    with tempfile.TemporaryDirectory() as folder:
+        room = Path(folder)
+        kept, text, ours = kept_module(kit, room), room / "module.ll", room / "ours.ll"
+        as_text = ["--no-default-config", "-x", "ir", "-S", "-emit-llvm", "-Xclang", "-disable-llvm-passes"]
+        run([clang, *as_text, kept, "-o", text])
+        with open(text) as lines, open(ours, "w") as out:
+            out.writelines(retargeted(lines))
+        run([clang, *TARGET, "-O2", "-ffunction-sections", "-x", "ir", "-c", ours, "-o", room / "ours.o"])
+        support = Path(__file__).resolve().parent / "support.c"
+        flags = ["-O2", "-ffreestanding", "-nostdinc", "-fno-builtin", "-Wall", "-Wextra", "-Werror"]
+        run([clang, *TARGET, *flags, "-c", support, "-o", room / "support.o"])
+        link = ["-flavor", "wasm", "-mwasm64", "--no-entry", "--strip-all", "--gc-sections", "--stack-first"]
+        link += ["-z", f"stack-size={STACK}", *(f"--export={name}" for name in CALLS)]
+        run([linker, *link, "-o", room / "wide.wasm", room / "ours.o", room / "support.o"])
+        features = [f"--enable-{name}" for name in FEATURES]
+        lowering = ["--enable-memory64", "--memory64-lowering", room / "wide.wasm", "-o", room / "low.wasm"]
+        run(["wasm-opt", *features, *lowering])
+        run(["wasm-opt", *features, "-Os", room / "low.wasm", "-o", room / MODULE])
+        shutil.move(str(room / MODULE), str(to))
