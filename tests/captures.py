@@ -6,13 +6,14 @@
 With WORD only those tests run whose names have it. The captures are of tests/captures/transfers.c, right and
 with each fault, of ffmpeg and of vkcube, each with the JSON of gfxrecon-convert; what few drivers have is in
 captures of programs that aren't run (orders.py and resources.py there). Each trace has to be accepted, or refused
-by the rule that is named, at the call that is named. What needs gfxrecon-convert is skipped where it isn't
-installed.
+by the rule that is named, at the call that is named, which `explain --names` has to say. What needs
+gfxrecon-convert is skipped where it isn't installed.
 """
 
 import gzip
 import json
 import pathlib
+import re
 import shutil
 import sys
 
@@ -50,6 +51,34 @@ def converted(arguments, names, status=0):
     return made
 
 
+CALL = re.compile(r" \(call (\d+) (\w+|\([^()]*\))(: [^()]*)?\)")
+
+
+def called(trace, names):
+    """What `explain` says with the calls of points: the text without them, and the calls in it."""
+    text = run([EXPLAIN, "--names", str(names)], trace).output.decode()
+    return CALL.sub("", text), [(int(m[1]), f"{m[2]} ({m[3][2:]})" if m[3] else m[2]) for m in CALL.finditer(text)]
+
+
+def objects(trace, names):
+    """The calls of points in the object of `explain --json`, and the object without them."""
+    plain = run([EXPLAIN, "--json"], trace).output
+    with_calls = json.loads(run([EXPLAIN, "--json", "--names", str(names)], trace).output)
+    calls = with_calls.pop("calls")
+    if with_calls != json.loads(plain):
+        raise ValueError(f"--json --names: {with_calls}")
+    return [(c["point"], c["call"], f"{c['name']} ({c['why']})" if "why" in c else c["name"]) for c in calls]
+
+
+def calls_are_said(trace, names, point, call):
+    """Raises an error unless `explain --names` says the call of the refused point first, and nothing else anew."""
+    plain = run([EXPLAIN], trace).output.decode()
+    text, calls = called(trace, names)
+    listed = objects(trace, names)
+    if (text, calls[:1]) != (plain, [call]) or (point, *call) not in listed or len(listed) != len(calls):
+        raise ValueError(f"--names: {calls} and {listed} in {text!r}, wanted {call} in {plain!r}")
+
+
 def judged(arguments, room, status=0):
     """What comes of a capture: the rule, the call, the bytes that are read, the summary."""
     names = room / "names.json"
@@ -57,6 +86,7 @@ def judged(arguments, room, status=0):
     words = run([EXPLAIN], made.output).output.split(b"\n")[0].decode().split()
     if words[0] == "refused":
         index, name = where(words[1], names)
+        calls_are_said(made.output, names, words[1], (index, name))
         return words[2], index, name, made.error.decode()
     if words != ["accepted"]:
         raise ValueError(f"explain: {words}")

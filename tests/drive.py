@@ -34,7 +34,7 @@ LAVAPIPE = "llvmpipe"
 RUNS = 20
 # How many random traces are performed, and where their drawing begins.
 RANDOM, SEED = 40, 7
-EQUAL, DIFFERS, NO_TRACE, IS_REFUSED, NOT_HERE = 0, 1, 2, 3, 6
+EQUAL, DIFFERS, NO_TRACE, IS_REFUSED, ENDLESS, NOT_HERE = 0, 1, 2, 3, 4, 6
 SECONDS = 300
 FIRST_UPLOAD = (TOP / "examples" / "first_upload.json").read_bytes()
 # The only example that has a clear by a component too large for its format: lavapipe clamps, and the profile takes
@@ -243,6 +243,37 @@ def kept_fault():
     return None if answer.status == EQUAL and kept == wanted else str(answer)
 
 
+# What a compiler is to include, so that the driver loses what it is asked for: batches, and signals of the host.
+BEFORE = "#define VK_ENABLE_BETA_EXTENSIONS\n#include <vulkan/vulkan.h>\n"
+LOSES_BATCHES = """
+static VkResult lose_batches(VkQueue queue, uint32_t count, const VkSubmitInfo2 *batches, VkFence fence) {
+    return count ? VK_SUCCESS : vkQueueSubmit2(queue, count, batches, fence);
+}
+#define vkQueueSubmit2 lose_batches
+"""
+LOSES_SIGNALS = """
+static VkResult lose_signals(VkDevice device, const VkSemaphoreSignalInfo *signal) {
+    return device && signal ? VK_SUCCESS : VK_ERROR_UNKNOWN;
+}
+#define vkSignalSemaphore lose_signals
+"""
+# A batch that waits for a later signal of the host.
+LATE_SIGNAL = b'[["semaphore",1,0],["submit",0,[[[[1,1,65536]],[],[]]]],["signal",1,1]]'
+
+
+def endless(name, lost, trace, said):
+    """A test that `drive` ends, and says where, on a driver that loses what it is asked for."""
+
+    def judge():
+        with tempfile.TemporaryDirectory() as room:
+            losing = Path(room) / "losing.h"
+            losing.write_text(BEFORE + lost, encoding="utf-8")
+            answer = drive([], trace, env={**os.environ, "CC": f"cc -include {losing}"})
+        return None if answer.status == ENDLESS and said in answer.output else str(answer)
+
+    return Test(f"drive: {name}", judge)
+
+
 def ended(name, status, said, arguments, trace=FIRST_UPLOAD, **streams):
     """A test that `drive` ends with a status, and says this."""
 
@@ -263,6 +294,8 @@ def ending_tests():
     yield ended("what a driver did beside the rules", IS_REFUSED, b"5 read 01020304 in 1 of 1 runs\n", ["--refused"],
                 example("missing_dependency"))
     yield ended("an entry that finds no room", EQUAL, b"finds no room", [], example("full_heap"))
+    yield endless("a wait that doesn't end", LOSES_BATCHES, FIRST_UPLOAD, b"no end at 3: the wait took more than 10 s\n")
+    yield endless("work that doesn't end", LOSES_SIGNALS, LATE_SIGNAL, b"no end at the end: a queue has work after 10 s\n")
     yield ended("no such device", NOT_HERE, b"no device", ["--device", "no such device"])
     yield ended("no compiler", NOT_HERE, b"drive: ", [], env={**os.environ, "CC": "/nonexistent"})
     yield ended("no run", NOT_HERE, b"--runs takes 1 or more", ["--runs", "0"])

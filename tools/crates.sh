@@ -38,3 +38,20 @@ released="vk_replay explain emit"
 sources_sum() {
     sum_of $(crates_of $released)
 }
+
+# What the C library is built from, as one sum.
+library_sum() {
+    sum_of $(crates_of zorthewin_c)
+}
+
+# FOLDER WORD FILE..: whether the folder has these files, made of the library's sources as they are: the
+# line of its RELEASE that begins with the word has their sum.
+has_made() (
+    word=$2
+    cd "$1" 2>/dev/null && shift 2 || exit 1
+    for file; do
+        [ -e "$file" ] || exit 1
+    done
+    grep -qsx "$word $(library_sum)" RELEASE
+)
+library_files="libzorthewin.a libzorthewin.so.0"
