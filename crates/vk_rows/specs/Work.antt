@@ -171,8 +171,8 @@ pub record Work : Type 0 where
   -- The fill after the barrier waits for the first one; that on the other queue doesn't.
   pub at_first : offers [] ≡ (3, 0) ∷ (7, 0) ∷ []
   pub then_the_second : offers ((3, 0) ∷ []) ≡ (5, 0) ∷ (7, 0) ∷ []
-  -- Before the wait both fills are two options once; after that one is left, and then the wait.
-  pub asked_once : (picked the_first two_fills).held ≡ 2 ∷ []
+  -- Before the wait both fills are two options once; after that one is left, and then the wait. After each fill it is asked what four caches do.
+  pub asked_once : (picked the_first two_fills).held ≡ 4 ∷ 4 ∷ 4 ∷ 4 ∷ 4 ∷ 4 ∷ 4 ∷ 4 ∷ 2 ∷ []
   pub in_order : (picked the_first two_fills).steps ≡ Apply [] 0 ∷ Apply [] 0 ∷ Apply [] 0 ∷ RunPiece (3, 0) ∷ RunPiece (4, 0) ∷ Apply [] 0 ∷ []
   pub last_first : (picked the_last two_fills).steps ≡ Apply [] 0 ∷ Apply [] 0 ∷ Apply [] 0 ∷ RunPiece (4, 0) ∷ RunPiece (3, 0) ∷ Apply [] 0 ∷ []
   -- Both orders of the fills are allowed runs.

@@ -8,7 +8,7 @@ use Rattle.vk_model.specs.declared.entry.Entry.{Entry}
 use Rattle.vk_model.specs.declared.entry.Entry.TheVariants as entry
 use Rattle.vk_model.specs.Basics.{holds}
 use Rattle.vk_model.specs.Run.Runs.{Name, is_done, offered, Step, Apply, RunPiece, CopyPart, Stage, start, may_go, atom_count, entered, with_parts, applied, Applies, Next, Allowed}
-use Rattle.vk_model.specs.Run.Picks.{Choice, Take, Go, Picked, stepped, options, pick_of, held_after, picks, most_picks, atom_picks, before_entry, entry_picks, trace_picks}
+use Rattle.vk_model.specs.Run.Picks.{Choice, Take, Go, Picked, stepped, options, pick_of, held_after, held_after_step, picks, most_picks, atom_picks, before_entry, entry_picks, trace_picks}
 use Rattle.vk_laws.specs.DefinedRuns.{RunOf}
 use Rattle.vk_laws.specs.PickedRuns.{LeadsTo, IsRun}
 use Rattle.vk_model.proofs.Lists.Members.{place_has}
@@ -77,18 +77,18 @@ module _ (answer : List ℕ → ℕ → ℕ) (next : List ℕ → ℕ → List �
 
         by_choice : (c : Choice) → Fits s x c → LeadsTo s x (elim c [
           | Go ↦ record { steps = []; stage = s; held = held_after answer next held n }
-          | Take step ↦ (let more = picks answer next fuel (stepped step s) (held_after answer next held n) x in record more { steps = step ∷ more.steps })
+          | Take step ↦ (let more = picks answer next fuel (stepped step s) (held_after_step answer next step (held_after answer next held n)) x in record more { steps = step ∷ more.steps })
         ])
         by_choice _ (Goes may) = record { run = refl; front = refl; left = refl; count = refl; may = may }
         by_choice _ (Takes step allowed less) =
-            let rest = again (steps ++ step ∷ []) (stepped step s) (held_after answer next held n) (allowed_joined steps (step ∷ []) (start t) s (stepped step s) run (stepped step s, allowed, refl)) (left_stays step s ∙ left) (omega (arith, less, lt)) in
+            let rest = again (steps ++ step ∷ []) (stepped step s) (held_after_step answer next step (held_after answer next held n)) (allowed_joined steps (step ∷ []) (start t) s (stepped step s) run (stepped step s, allowed, refl)) (left_stays step s ∙ left) (omega (arith, less, lt)) in
             record { run = (stepped step s, allowed, rest.run); front = rest.front ∙ front_stays step s; left = rest.left ∙ left_stays step s; count = rest.count ∙ count_stays step s; may = rest.may }
 
         go : (o : Option Choice) → slice_get (options answer next s x) (pick_of answer next held n) ≡ o → LeadsTo s x (elim o [
           | None ↦ record { steps = []; stage = s; held = held }
           | Some c ↦ elim c [
             | Go ↦ record { steps = []; stage = s; held = held_after answer next held n }
-            | Take step ↦ (let more = picks answer next fuel (stepped step s) (held_after answer next held n) x in record more { steps = step ∷ more.steps })
+            | Take step ↦ (let more = picks answer next fuel (stepped step s) (held_after_step answer next step (held_after answer next held n)) x in record more { steps = step ∷ more.steps })
           ]
         ])
         go None e = absurd (let is = slice_get-get_or (options answer next s x) (pick_of answer next held n) Go (pick_below held n some) in cc)

@@ -38,6 +38,11 @@ module _ (answer : List ℕ → ℕ → ℕ) (next : List ℕ → ℕ → List �
   abbrev pub held_after : List ℕ → ℕ → List ℕ
   held_after held n = if nat_le 2 n then next held n else held
 
+  -- What it holds after a step: after a piece it is asked what the cache of each of the four queues does, of four answers each (profile).
+  abbrev pub held_after_step : Step → List ℕ → List ℕ
+  held_after_step (RunPiece x) held = next (next (next (next held 4) 4) 4) 4
+  held_after_step _ held = held
+
   -- The steps picked before an entry, until the entry is picked; `fuel` is at least how many there can be.
   abbrev pub picks : ℕ → Stage → List ℕ → Entry → Picked
   picks zero s held x = record { steps = []; stage = s; held = held }
@@ -47,7 +52,7 @@ module _ (answer : List ℕ → ℕ → ℕ) (next : List ℕ → ℕ → List �
         | None ↦ record { steps = []; stage = s; held = held }
         | Some c ↦ elim c [
           | Go ↦ record { steps = []; stage = s; held = held_after held n }
-          | Take step ↦ (let more = picks fuel (stepped step s) (held_after held n) x in record more { steps = step ∷ more.steps })
+          | Take step ↦ (let more = picks fuel (stepped step s) (held_after_step step (held_after held n)) x in record more { steps = step ∷ more.steps })
         ]
       ]
 
