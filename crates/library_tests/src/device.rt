@@ -28,12 +28,13 @@ static FILLS: [Piece; 2] = [
 
 /// So many entries of a trace, how often the scheduler is asked, among how many options the last time,
 /// and how many fills may run next in the end. There is a choice once, as the two fills may run and
-/// the wait may not be applied; then one fill is the only option, and then the wait. Nothing is asked
-/// for a submit of nothing.
+/// the wait may not be applied; then one fill is the only option, and then the wait. After each fill it
+/// is asked what the caches of four queues do, of four answers each. Nothing is asked for a submit of
+/// nothing.
 static ASKED: [(&str, usize, u64, u64, usize); 4] = [
     (TWO_FILLS, 3, 0, 0, 2),
-    (TWO_FILLS, 4, 1, 2, 0),
-    (TWO_FILLS, 6, 1, 2, 0),
+    (TWO_FILLS, 4, 9, 4, 0),
+    (TWO_FILLS, 6, 9, 4, 0),
     (r#"[["submit",0,[]]]"#, 1, 0, 0, 0),
 ];
 
@@ -67,7 +68,7 @@ fn expect_asked(
     Ok(())
 }
 
-/// The scheduler is asked where there are two options or more.
+/// The scheduler is asked where there are two options or more, and after each piece.
 #[test]
 fn the_scheduler_is_asked_where_it_has_a_choice(rt: HostRuntime) -> Result<(), Fail> {
     for row in &ASKED {

@@ -148,14 +148,14 @@ fn no_traces(rt: HostRuntime) {
     }
 }
 
-/// The scheduler that is handed in is asked where two fills may run and the wait for them may not go,
-/// and at no other entry. It is asked for each of the two atoms of 100 bytes, before each of the four
-/// entries that access them.
+/// The scheduler that is handed in is asked where two fills may run and the wait for them may not go, at
+/// no other entry, and after each fill for the caches of four queues. It is asked for each of the two
+/// atoms of 100 bytes, before each of the four entries that access them.
 #[test]
 fn the_scheduler_is_asked(rt: HostRuntime) {
     let mut sched = Counting::new();
     let (ending, _) = run_picked(rt.alloc(), TWO_FILLS.as_bytes(), &mut sched);
-    expect(&rt, "two fills", (ending, sched.asked), (REPLAYED, 1));
+    expect(&rt, "two fills", (ending, sched.asked), (REPLAYED, 9));
     let mut sched = Counting::new();
     let (ending, written) = run_picked(rt.alloc(), CACHED_ACCESSES.as_bytes(), &mut sched);
     expect(&rt, "two atoms", (ending, sched.asked), (REPLAYED, 8));

@@ -8,3 +8,4 @@ mod EntriesTold
 mod LagRuns
 mod BareBytes
 mod CachedPicking
+mod SamePicks

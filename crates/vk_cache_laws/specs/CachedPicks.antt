@@ -7,7 +7,7 @@ use Rattle.vk_model.specs.World.Bytes.{Byte, resource_at}
 use Rattle.vk_model.specs.Rules.Table.{first_fault}
 use Rattle.vk_model.specs.Sync.Complete.{named_by_act}
 use Rattle.vk_model.specs.Run.Runs.{Name, Step, Apply, RunPiece, Stage, start, atom_count, applied}
-use Rattle.vk_model.specs.Run.Picks.{Take, Go, stepped, options, pick_of, held_after, most_picks, atom_picks}
+use Rattle.vk_model.specs.Run.Picks.{Take, Go, Picked, trace_picks, stepped, options, pick_of, held_after, most_picks, atom_picks}
 use Rattle.vk_model.specs.Run.CachedRuns.{Cells, numbered, Touch, WriteBack, Drop, Load, CachedStep, Does, Touches}
 use Rattle.vk_laws.specs.CachedRuns.{CachedRunOf, steps_of}
 use Rattle.vk_laws.specs.DefinedRuns.{RunOf}
@@ -98,3 +98,15 @@ abbrev pub CachedPicksAreRuns : Type 0
 CachedPicksAreRuns =
     (answer : List ℕ → ℕ → ℕ) (next : List ℕ → ℕ → List ℕ) (t : List Entry) (first : Byte → ℕ) (parts : ℕ → ℕ) (moved : ℕ → List ℕ) (stop : Option ℕ) (held : List ℕ) → first_fault t ≡ None
     → IsRunThrough t first stop (trace_picks_through answer next parts moved stop (start t) held t)
+
+-- What is picked through caches has, without what the caches do, these steps; it leads to the same stage, and leaves the scheduler alike.
+pub record ArePicks (p : CachedPicked) (q : Picked) : Type 0 where
+  pub steps : steps_of p.steps ≡ q.steps
+  pub stage : p.stage ≡ q.stage
+  pub held : p.held ≡ q.held
+
+-- So are the picks for a trace those of a device that keeps bytes in place: it asks as much, and only leaves out what caches do.
+abbrev pub CachedPicksAreThePicks : Type 0
+CachedPicksAreThePicks =
+    (answer : List ℕ → ℕ → ℕ) (next : List ℕ → ℕ → List ℕ) (parts : ℕ → ℕ) (moved : ℕ → List ℕ) (stop : Option ℕ) (s : Stage) (held : List ℕ) (xs : List Entry)
+    → ArePicks (trace_picks_through answer next parts moved stop s held xs) (trace_picks answer next parts stop s held xs)

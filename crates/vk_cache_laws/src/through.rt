@@ -1,5 +1,5 @@
 //! What the host reads on a device whose queues each have a write-back cache.
-ghost use Rattle.vk_cache_laws.specs.CachedPicks.{CachedPicksAreRuns};
+ghost use Rattle.vk_cache_laws.specs.CachedPicks.{CachedPicksAreRuns, CachedPicksAreThePicks};
 ghost use Rattle.vk_cache_laws.specs.ThroughCaches.{CachedRunsAreNotStuck, CachedRunsReadTheMeaning, CachedRunsReadTheWhole};
 
 use vk_laws::{
@@ -21,9 +21,11 @@ pub fn cached_runs_read_the_meaning()
 }
 
 /// Whatever a scheduler answers, what it picks for a trace without a fault on a device whose queues each
-/// have a cache is an allowed run through caches; to the trace's end, where no entry finds no room.
+/// have a cache is an allowed run through caches; to the trace's end, where no entry finds no room
+/// (`runs`). For every trace these are its picks, with what the caches do between them (`picks`).
 pub fn cached_picks_are_runs()
-    ensures { CachedPicksAreRuns }
+    ensures runs { CachedPicksAreRuns }
+    ensures picks { CachedPicksAreThePicks }
 {
     cached_runs_are_reached();
     defined_runs_go_on();

@@ -10,7 +10,7 @@ use Rattle.vk_model.specs.declared.entry.Entry.{Entry}
 use Rattle.vk_model.specs.Basics.{below, among}
 use Rattle.vk_model.proofs.Lists.Members.{filtered}
 use Rattle.vk_model.specs.Run.Runs.{Name, Step, Stage, RunPiece, CopyPart, offered, parts_left, may_go}
-use Rattle.vk_model.specs.Run.Picks.{Choice, Take, Go, Picked, stepped, options, pick_of, held_after, picks, before_entry, most_picks}
+use Rattle.vk_model.specs.Run.Picks.{Choice, Take, Go, Picked, stepped, options, pick_of, held_after, held_after_step, picks, before_entry, most_picks}
 use Rattle.vk_sync.specs.declared.board.Command.{Command}
 use Rattle.vk_sync.specs.declared.ready.Piece.{Piece}
 use Rattle.vk_sync.specs.Ready.{ready}
@@ -107,7 +107,7 @@ module _ (answer : List ℕ → ℕ → ℕ) (next : List ℕ → ℕ → List �
     | None ↦ record { steps = []; stage = s; held = held }
     | Some c ↦ elim c [
       | Go ↦ record { steps = []; stage = s; held = held_after answer next held (length (options answer next s x)) }
-      | Take step ↦ (let more = picks answer next fuel (stepped step s) (held_after answer next held (length (options answer next s x))) x in record more { steps = step ∷ more.steps })
+      | Take step ↦ (let more = picks answer next fuel (stepped step s) (held_after_step answer next step (held_after answer next held (length (options answer next s x)))) x in record more { steps = step ∷ more.steps })
     ]
   ]
 
@@ -115,10 +115,10 @@ module _ (answer : List ℕ → ℕ → ℕ) (next : List ℕ → ℕ → List �
   picks_are fuel s held x = refl
 
   picks_step : (fuel : ℕ) (s : Stage) (held : List ℕ) (x : Entry) (step : Step) (n : ℕ) → n ≡ length (options answer next s x) → slice_get (options answer next s x) (pick_of answer next held n) ≡ Some (Take step)
-      → picks answer next (suc fuel) s held x ≡ onward (step ∷ []) (picks answer next fuel (stepped step s) (held_after answer next held n) x)
+      → picks answer next (suc fuel) s held x ≡ onward (step ∷ []) (picks answer next fuel (stepped step s) (held_after_step answer next step (held_after answer next held n)) x)
   picks_step fuel s held x step n size at =
       picks_are fuel s held x ∙ ap (λ (o : Option Choice). after_choice fuel s held x o) (ap (λ (m : ℕ). slice_get (options answer next s x) (pick_of answer next held m)) (sym size) ∙ at)
-      ∙ ap (λ (m : ℕ). onward (step ∷ []) (picks answer next fuel (stepped step s) (held_after answer next held m) x)) (sym size)
+      ∙ ap (λ (m : ℕ). onward (step ∷ []) (picks answer next fuel (stepped step s) (held_after_step answer next step (held_after answer next held m)) x)) (sym size)
 
   picks_entry : (fuel : ℕ) (s : Stage) (held : List ℕ) (x : Entry) (n : ℕ) → n ≡ length (options answer next s x) → slice_get (options answer next s x) (pick_of answer next held n) ≡ Some Go
       → picks answer next (suc fuel) s held x ≡ record { steps = []; stage = s; held = held_after answer next held n }
@@ -278,11 +278,12 @@ module _ (answer : List ℕ → ℕ → ℕ) (next : List ℕ → ℕ → List �
       -- a step is picked, and taken
       module _ (step : Step) (done : List Name) (copied : List ℕ) (stage_is : stepped step now ≡ record s { done = done; copied = copied }) (d' : Device) (led' : Led t ((steps ++ turn.so_far) ++ step ∷ []) (record s { done = done; copied = copied }) d') (fewer : left_on d' < left_on d)
           (at : slice_get (options answer next now x) (pick_of answer next held (option_count (pieces + parts) goes)) ≡ Some (Take step)) (places : d.resources.resources ≡ d0.resources.resources) (images : d.resources.shapes ≡ d0.resources.shapes)
-          (one : (moved : List ℕ) → Becomes d.resources d'.resources (memory_after s.front.past moved x (step ∷ []))) where
-        taken : Turn t steps s d0 first x d' held'
+          (one : (moved : List ℕ) → Becomes d.resources d'.resources (memory_after s.front.past moved x (step ∷ [])))
+          (held'' : List ℕ) (asked : held'' ≡ held_after_step answer next step held') where
+        taken : Turn t steps s d0 first x d' held''
         taken = go turn.fuel turn.enough turn.whole
           where
-            go : (fuel : ℕ) → left_on d < fuel → before_entry answer next s first x ≡ onward answer next turn.so_far (picks answer next fuel now held x) → Turn t steps s d0 first x d' held'
+            go : (fuel : ℕ) → left_on d < fuel → before_entry answer next s first x ≡ onward answer next turn.so_far (picks answer next fuel now held x) → Turn t steps s d0 first x d' held''
             go zero lt whole = absurd (omega (arith, lt))
             go (suc fuel) lt whole = record {
               so_far = turn.so_far ++ step ∷ [];
@@ -293,22 +294,22 @@ module _ (answer : List ℕ → ℕ → ℕ) (next : List ℕ → ℕ → List �
               enough = omega (arith, lt, fewer);
               whole =
                   whole ∙ ap (λ (p : Picked). onward answer next turn.so_far p) (picks_step answer next fuel now held x step (option_count (pieces + parts) goes) size at)
-                  ∙ ap (λ (q : Stage). onward answer next turn.so_far (onward answer next (step ∷ []) (picks answer next fuel q (held_after answer next held (option_count (pieces + parts) goes)) x))) stage_is
-                  ∙ ap (λ (h : List ℕ). onward answer next turn.so_far (onward answer next (step ∷ []) (picks answer next fuel (record s { done = done; copied = copied }) h x))) (sym held_is)
-                  ∙ ap (λ (l : List Step). record (picks answer next fuel (record s { done = done; copied = copied }) held' x) { steps = l }) (sym (append_assoc turn.so_far (step ∷ []) (picks answer next fuel (record s { done = done; copied = copied }) held' x).steps));
+                  ∙ ap (λ (q : Stage). onward answer next turn.so_far (onward answer next (step ∷ []) (picks answer next fuel q (held_after_step answer next step (held_after answer next held (option_count (pieces + parts) goes))) x))) stage_is
+                  ∙ ap (λ (h : List ℕ). onward answer next turn.so_far (onward answer next (step ∷ []) (picks answer next fuel (record s { done = done; copied = copied }) h x))) (ap (λ (h : List ℕ). held_after_step answer next step h) (sym held_is) ∙ sym asked)
+                  ∙ ap (λ (l : List Step). record (picks answer next fuel (record s { done = done; copied = copied }) held'' x) { steps = l }) (sym (append_assoc turn.so_far (step ∷ []) (picks answer next fuel (record s { done = done; copied = copied }) held'' x).steps));
               bytes = λ moved. steps_become s.front.past moved x d0.resources d.resources d'.resources turn.so_far (step ∷ []) places images (turn.bytes moved) (one moved);
             }
 
       -- a piece runs
-      pub piece_taken : (piece : Piece) → slice_get (offered s.front.past turn.done) picked ≡ Some (name_of s.front.past piece) → Contains (ready d.offers.ready) piece → (d' : Device) → HasRun d d' piece → d.resources.resources ≡ d0.resources.resources → d.resources.shapes ≡ d0.resources.shapes → RunBecomes d d' piece → Turn t steps s d0 first x d' held'
-      piece_taken piece named among' d' ran places images becomes =
+      pub piece_taken : (piece : Piece) → slice_get (offered s.front.past turn.done) picked ≡ Some (name_of s.front.past piece) → Contains (ready d.offers.ready) piece → (d' : Device) → HasRun d d' piece → d.resources.resources ≡ d0.resources.resources → d.resources.shapes ≡ d0.resources.shapes → RunBecomes d d' piece → (held'' : List ℕ) → held'' ≡ next (next (next (next held' 4) 4) 4) 4 → Turn t steps s d0 first x d' held''
+      piece_taken piece named among' d' ran places images becomes held'' asked =
           taken (RunPiece (name_of s.front.past piece)) (name_of s.front.past piece ∷ turn.done) turn.copied refl d' (led_on piece d' ran) (fewer_piece piece among' d' ran)
           (turn_piece answer next now x (pick_of answer next held (option_count (pieces + parts) goes)) (name_of s.front.past piece) (ap (λ (k : ℕ). slice_get (offered s.front.past turn.done) k) (sym pick_is) ∙ named))
-          places images (λ moved. becomes t (steps ++ turn.so_far) now turn.led is.sound)
+          places images (λ moved. becomes t (steps ++ turn.so_far) now turn.led is.sound) held'' asked
 
       -- a part is copied
       pub part_taken : (j part : ℕ) → picked ≡ pieces + j → slice_get (backing.parts_left d.passes) j ≡ Some part → Contains (backing.parts_left d.passes) part → (d' : Device) → HasCopied d d' part → d'.offers ≡ d.offers → d.resources.resources ≡ d0.resources.resources → d.resources.shapes ≡ d0.resources.shapes → KeepsCells d.resources d'.resources → Turn t steps s d0 first x d' held'
       part_taken j part is_at here among' d' copies same places images cells =
           taken (CopyPart part) turn.done (part ∷ turn.copied) refl d' (copies t (steps ++ turn.so_far) now turn.led) (fewer_part part among' d' copies same)
           (turn_part answer next now x (pick_of answer next held (option_count (pieces + parts) goes)) j part (sym pick_is ∙ is_at ∙ ap (λ (n : ℕ). n + j) counted) (ap (λ (l : List ℕ). slice_get l j) turn.led.passes.left ∙ here))
-          places images (λ moved. cells_become d.resources d'.resources cells)
+          places images (λ moved. cells_become d.resources d'.resources cells) held' refl

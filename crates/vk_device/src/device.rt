@@ -194,6 +194,7 @@ impl<'a> Device<'a> {
             if picked < pieces {
                 let piece = self.offers.nth(picked);
                 self.run(piece);
+                ask_caches(sched);
             } else if picked - pieces < parts {
                 let part = self.passes.nth_part(picked - pieces);
                 self.copy_next(part);
@@ -399,6 +400,17 @@ impl<'a> Device<'a> {
     {
         self.resources.peek(memory, at, out);
     }
+}
+
+/// Asks what the cache of each of the four queues does after a piece, of four answers each. Bytes are
+/// kept in place here, and no cache of a queue holds one, so that it changes none.
+fn ask_caches<S: Scheduler>(sched: &mut S)
+    ensures { S.held sched.new ≡ S.next (S.next (S.next (S.next (S.held sched.old) 4) 4) 4) 4 }
+{
+    sched.pick(4);
+    sched.pick(4);
+    sched.pick(4);
+    sched.pick(4);
 }
 
 /// Which of the options is picked: so many pieces, and then the entry, where it may be applied. The

@@ -73,7 +73,7 @@ loop-commands-preserved-then-picked-pieces g c = record {
       let may = goes_is g.S.Scheduler.answer g.S.Scheduler.next t steps s xs c.args.self.now (g.S.Scheduler.held c.args.sched.now) c.args.entry.now is c.loop-commands.self (g.S.Scheduler.held c.loop-commands.sched) turn c.in_ok-commands.commands c.in_ok-commands.ensures c.may_go-goes.result c.may_go-goes.ensures in
       piece_taken g.S.Scheduler.answer g.S.Scheduler.next t steps s xs c.args.self.now (g.S.Scheduler.held c.args.sched.now) c.args.entry.now is c.loop-commands.self (g.S.Scheduler.held c.loop-commands.sched) turn
       c.count-pieces.result c.parts_left-parts.result (c.count-pieces.ensures.named s.front.past turn.done turn.led.offers) c.parts_left-parts.ensures c.may_go-goes.result may c.pick-picked.result (g.S.Scheduler.held c.pick-picked.new.sched) c.pick-picked.ensures.picked
-      c.pick-picked.ensures.held c.nth-piece.result (c.nth-piece.ensures.named s.front.past turn.done turn.led.offers) c.nth-piece.ensures.ready c.run.new.self c.run.ensures.ran c.loop-commands.invariant.between.resources c.loop-commands.invariant.between.shapes c.run.ensures.becomes;
+      c.pick-picked.ensures.held c.nth-piece.result (c.nth-piece.ensures.named s.front.past turn.done turn.led.offers) c.nth-piece.ensures.ready c.run.new.self c.run.ensures.ran c.loop-commands.invariant.between.resources c.loop-commands.invariant.between.shapes c.run.ensures.becomes (g.S.Scheduler.held c.ask_caches.new.sched) c.ask_caches.ensures;
   same_allotted = c.run.ensures.allotted ∙ c.loop-commands.invariant.same_allotted;
   stays = λ d is. stays_same c.loop-commands.self.resources c.run.new.self.resources c.loop-commands.self.passes c.run.new.self.passes c.run.ensures.allotted c.run.ensures.passes d (c.loop-commands.invariant.stays d is);
   between =
