@@ -1,0 +1,107 @@
+ghost use Rattle.std.specs.Prelude.{◌≡◌, ◌<◌, ◌≤◌, ◌+◌, ◌-◌, ℕ, if◌then◌else◌, length, replicate, slice_index, IfOk, Some, None};
+ghost use Rattle.vk_lag.specs.Lags.{late_in, is_between, caught_up, in_memory};
+
+use crate::late::{Due, Late, Writer, catch_up, look, make_late};
+use std::alloc::{AllocError, Global};
+use std::marker::Model;
+
+/// Which bytes of a memory object are late. Contracts see that of each byte.
+#[derive(Drop)]
+pub(crate) struct LateBytes {
+    bytes: Vec<Option<Late>>,
+    /// Before this byte none is late.
+    low: usize,
+    /// From this byte on none is late.
+    high: usize,
+}
+
+impl Model for LateBytes {
+    ghost use Rattle.std.specs.Prelude.{ℕ, ◌≡◌, ◌≤◌, ◌<◌, List, Option, Some, length};
+    ghost use Rattle.vk_lag.specs.declared.late.Late.{Late};
+    ghost use Rattle.vk_lag.specs.Lags.{late_in};
+    ghost use Rattle.vk_lag.specs.Inner.{AreLateBetween};
+
+    ghost Value = { List (Option Late) };
+
+    ghost view = { λ b. b.bytes.items };
+
+    ghost invariant = { λ b. AreLateBetween b.bytes.items b.low b.high };
+}
+
+impl LateBytes {
+    /// Room for `size` bytes, of which none is late. The only error is want of memory.
+    pub(crate) fn new(alloc: Global, size: usize) -> Result<LateBytes, AllocError>
+        ensures { IfOk result (λ b. b ≡ replicate size None) }
+    {
+        let mut bytes = Vec::new(alloc);
+        bytes.resize(size, None)?;
+        Ok(LateBytes {
+            bytes,
+            low: 0,
+            high: 0,
+        })
+    }
+
+    /// Whether a byte is late.
+    pub(crate) fn late(&self, at: usize) -> Option<Late>
+        ensures { result ≡ late_in self.now at }
+    {
+        match self.bytes.as_slice().get(at) {
+            Some(byte) => *byte,
+            None => None,
+        }
+    }
+
+    /// Bytes from byte `at` on become late, of which memory still has these values.
+    pub(crate) fn write(&mut self, at: usize, values: &[u8], writer: Writer)
+        requires { at + length values.now ≤ length self.old }
+        ensures len { length self.new ≡ length self.old }
+        ensures bytes { (k : ℕ) → late_in self.new k
+            ≡ (if is_between at (at + length values.now) k then Some (record { writer = writer; value = slice_index values.now (k - at) }) else late_in self.old k) }
+    {
+        let _size = self.bytes.len();
+        let end = at + values.len();
+        make_late(&mut self.bytes, at, values, writer);
+        if self.low < self.high {
+            self.low = self.low.min(at);
+            self.high = self.high.max(end);
+        } else {
+            self.low = at;
+            self.high = end;
+        }
+    }
+
+    /// Memory catches up with the bytes from byte `low` to before byte `high` that are due.
+    pub(crate) fn catch_up(&mut self, low: usize, high: usize, due: Due)
+        ensures len { length self.new ≡ length self.old }
+        ensures bytes { (k : ℕ) → late_in self.new k
+            ≡ (if is_between low high k then caught_up due (late_in self.old k) else late_in self.old k) }
+    {
+        let from = low.max(self.low);
+        let to = high.min(self.high);
+        if from < to {
+            let some = catch_up(&mut self.bytes, from, to, due);
+            if from == self.low && to == self.high && !some {
+                self.low = 0;
+                self.high = 0;
+            }
+        }
+    }
+
+    /// Memory catches up with all bytes that are due.
+    pub(crate) fn catch_up_all(&mut self, due: Due)
+        ensures len { length self.new ≡ length self.old }
+        ensures bytes { (k : ℕ) → late_in self.new k ≡ caught_up due (late_in self.old k) }
+    {
+        let size = self.bytes.len();
+        self.catch_up(0, size, due);
+    }
+
+    /// Puts what memory still has over the newest values of the bytes from byte `at` on.
+    pub(crate) fn look(&self, at: usize, out: &mut [u8])
+        requires { at + length out.old ≤ length self.now }
+        ensures { (k : ℕ) → k < length out.old → slice_index out.new k ≡ in_memory (slice_index out.old k) (late_in self.now (at + k)) }
+    {
+        look(self.bytes.as_slice(), at, out);
+    }
+}
