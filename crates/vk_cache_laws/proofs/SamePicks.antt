@@ -44,24 +44,27 @@ module _ (answer : List ℕ → ℕ → ℕ) (next : List ℕ → ℕ → List �
 
   same_picks : (fuel : ℕ) (s : Stage) (held : List ℕ) (x : Entry) → ArePicks (picks_through answer next fuel s held x) (picks answer next fuel s held x)
   same_picks zero s held x = record { steps = refl; stage = refl; held = refl }
-  same_picks (suc fuel) s held x = by_option (slice_get (options answer next s x) (pick_of answer next held n))
+  same_picks (suc fuel) s held x = by_option (λ e h. same_picks fuel e h x) (slice_get (options answer next s x) (pick_of answer next held n))
     where
       n : ℕ
       n = length (options answer next s x)
 
-      by_step : (step : Step) → ArePicks (let after = touches_after answer next s.front.past step (held_after answer next held n) in let more = picks_through answer next fuel (stepped step s) after.1 x in record more { steps = Does step [] ∷ (after.0 ++ more.steps) })
+      Again : Type 0
+      Again = (e : Stage) (h : List ℕ) → ArePicks (picks_through answer next fuel e h x) (picks answer next fuel e h x)
+
+      by_step : Again → (step : Step) → ArePicks (let after = touches_after answer next s.front.past step (held_after answer next held n) in let more = picks_through answer next fuel (stepped step s) after.1 x in record more { steps = Does step [] ∷ (after.0 ++ more.steps) })
           (let more = picks answer next fuel (stepped step s) (held_after_step answer next step (held_after answer next held n)) x in record more { steps = step ∷ more.steps })
-      by_step step =
+      by_step again step =
           let after = touches_after answer next s.front.past step (held_after answer next held n) in
           let more = picks_through answer next fuel (stepped step s) after.1 x in
-          let same = subst (λ (h : List ℕ). ArePicks more (picks answer next fuel (stepped step s) h x)) (after_held s.front.past step (held_after answer next held n)) (same_picks fuel (stepped step s) after.1 x) in
+          let same = subst (λ (h : List ℕ). ArePicks more (picks answer next fuel (stepped step s) h x)) (after_held s.front.past step (held_after answer next held n)) (again (stepped step s) after.1) in
           record {
             steps = ap (λ (l : List Step). step ∷ l) (steps_joined after.0 more.steps ∙ ap (λ (l : List Step). l ++ steps_of more.steps) (after_none s.front.past step (held_after answer next held n)) ∙ same.steps);
             stage = same.stage;
             held = same.held;
           }
 
-      by_option : (o : Option Choice) → ArePicks (elim o [
+      by_option : Again → (o : Option Choice) → ArePicks (elim o [
         | None ↦ record { steps = []; stage = s; held = held }
         | Some c ↦ elim c [
           | Go ↦ record { steps = []; stage = s; held = held_after answer next held n }
@@ -74,9 +77,9 @@ module _ (answer : List ℕ → ℕ → ℕ) (next : List ℕ → ℕ → List �
           | Take step ↦ (let more = picks answer next fuel (stepped step s) (held_after_step answer next step (held_after answer next held n)) x in record more { steps = step ∷ more.steps })
         ]
       ])
-      by_option None = record { steps = refl; stage = refl; held = refl }
-      by_option (Some Go) = record { steps = refl; stage = refl; held = refl }
-      by_option (Some (Take step)) = by_step step
+      by_option again None = record { steps = refl; stage = refl; held = refl }
+      by_option again (Some Go) = record { steps = refl; stage = refl; held = refl }
+      by_option again (Some (Take step)) = by_step again step
 
   -- ---- with an entry, and for a trace
 
@@ -105,7 +108,7 @@ module _ (answer : List ℕ → ℕ → ℕ) (next : List ℕ → ℕ → List �
 
   pub same_for_trace : (parts : ℕ → ℕ) (moved : ℕ → List ℕ) (stop : Option ℕ) (s : Stage) (held : List ℕ) (xs : List Entry) → ArePicks (trace_picks_through answer next parts moved stop s held xs) (trace_picks answer next parts stop s held xs)
   same_for_trace parts moved stop s held [] = record { steps = refl; stage = refl; held = refl }
-  same_for_trace parts moved stop s held (x ∷ xs) = go (holds stop (λ n. n == s.count))
+  same_for_trace parts moved stop s held (x ∷ xs) = go (λ e h. same_for_trace parts moved stop e h xs) (holds stop (λ n. n == s.count))
     where
       one : CachedPicked
       one = entry_picks_through answer next (parts s.count) (moved s.count) s held x xs
@@ -119,12 +122,15 @@ module _ (answer : List ℕ → ℕ → ℕ) (next : List ℕ → ℕ → List �
       rest : CachedPicked
       rest = trace_picks_through answer next parts moved stop one.stage one.held xs
 
-      on : (e : Stage) (h : List ℕ) → one.stage ≡ e → one.held ≡ h → ArePicks rest (trace_picks answer next parts stop e h xs)
-      on e h stage holds_it =
-          subst (λ (z : Stage). ArePicks rest (trace_picks answer next parts stop z h xs)) stage
-          (subst (λ (z : List ℕ). ArePicks rest (trace_picks answer next parts stop one.stage z xs)) holds_it (same_for_trace parts moved stop one.stage one.held xs))
+      Again : Type 0
+      Again = (e : Stage) (h : List ℕ) → ArePicks (trace_picks_through answer next parts moved stop e h xs) (trace_picks answer next parts stop e h xs)
 
-      go : (b : Bool) → ArePicks (if b then before_entry_through answer next s held x else record rest { steps = one.steps ++ rest.steps })
+      on : Again → (e : Stage) (h : List ℕ) → one.stage ≡ e → one.held ≡ h → ArePicks rest (trace_picks answer next parts stop e h xs)
+      on again e h stage holds_it =
+          subst (λ (z : Stage). ArePicks rest (trace_picks answer next parts stop z h xs)) stage
+          (subst (λ (z : List ℕ). ArePicks rest (trace_picks answer next parts stop one.stage z xs)) holds_it (again one.stage one.held))
+
+      go : Again → (b : Bool) → ArePicks (if b then before_entry_through answer next s held x else record rest { steps = one.steps ++ rest.steps })
           (if b then before_entry answer next s held x else (let more = trace_picks answer next parts stop first.stage first.held xs in record more { steps = first.steps ++ more.steps }))
-      go true = same_picks (most_picks answer next s) s held x
-      go false = then_same one first is rest (trace_picks answer next parts stop first.stage first.held xs) (on first.stage first.held is.stage is.held)
+      go again true = same_picks (most_picks answer next s) s held x
+      go again false = then_same one first is rest (trace_picks answer next parts stop first.stage first.held xs) (on again first.stage first.held is.stage is.held)
