@@ -35,7 +35,7 @@ is_between low high k = nat_le low k && nat_lt k high
 abbrev pub is_due : Due → Late → Bool
 is_due due.All late = true
 is_due (due.Of q) late = late.writer.queue == q
-is_due (due.Before w) late = late.writer.queue == w.queue && nat_lt late.writer.command w.command
+is_due (due.Before w) late = late.writer.queue == w.queue && nat_lt late.writer.node w.node
 
 -- ---- changes
 

@@ -6,8 +6,8 @@ ghost use Rattle.vk_lag.specs.Lags.{late_in, is_between, is_due, caught_up, in_m
 pub struct Writer {
     /// The number of its queue.
     pub queue: u32,
-    /// How many commands of the queue came before it, in submission order.
-    pub command: u32,
+    /// The number of its node: nodes are numbered in reference order.
+    pub node: u32,
 }
 
 /// A late byte.
@@ -26,7 +26,7 @@ pub enum Due {
     All,
     /// Those that a queue of this number wrote.
     Of(u32),
-    /// Those that a command of the same queue before this one wrote.
+    /// Those that a command of the same queue before a node wrote.
     Before(Writer),
 }
 
@@ -38,7 +38,7 @@ fn is_due(due: Due, late: Late) -> bool
     match due {
         Due::All => true,
         Due::Of(queue) => writer.queue == queue,
-        Due::Before(other) => writer.queue == other.queue && writer.command < other.command,
+        Due::Before(other) => writer.queue == other.queue && writer.node < other.node,
     }
 }
 

@@ -7,7 +7,7 @@
 //! ```text
 //! let mut lags = Lags::new(alloc);
 //! lags.add(0, region.size())?;
-//! lags.write(0, 4, &[9, 9], Writer { queue: 2, command: 0 });  // memory still has 9 9 there
+//! lags.write(0, 4, &[9, 9], Writer { queue: 2, node: 3 });  // memory still has 9 9 there
 //! lags.look(0, 0, &mut bytes);                                 // bytes 4 and 5 read 9
 //! lags.catch_up(0, 0, 16, Due::Of(2));                         // what queue 2 wrote is written back
 //! lags.late(0, 4)                                              // None
