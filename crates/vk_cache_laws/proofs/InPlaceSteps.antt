@@ -14,7 +14,7 @@ use Rattle.vk_cache_laws.specs.InPlace.{Behind, Lag, IsTold, AreTold, caught_up,
 use Rattle.vk_cache_laws.proofs.Told.{told_back, told_drop, told_load}
 
 -- memory that doesn't catch up
-still : {value : ℕ} {host : Option Held} (behind : Option Behind) {cell : Cell} → IsTold value host behind cell → (q : ℕ) → IsTold value host (caught_up q false behind) cell
+pub still : {value : ℕ} {host : Option Held} (behind : Option Behind) {cell : Cell} → IsTold value host behind cell → (q : ℕ) → IsTold value host (caught_up q false behind) cell
 still None i q = i
 still (Some b) i q = i
 

@@ -9,3 +9,6 @@ mod LagRuns
 mod BareBytes
 mod CachedPicking
 mod SamePicks
+mod Writers
+mod LateSteps
+mod LateKept

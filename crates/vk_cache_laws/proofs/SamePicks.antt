@@ -1,5 +1,5 @@
 -- What is picked through caches are the picks, with what the caches do between them.
-use Rattle.std.proofs.Common.{◌≡◌, ℕ, zero, suc, ◌+◌, ◌%◌, List, [], ◌∷◌, ◌++◌, map, length, Bool, true, false, Option, Some, None, refl, ap, sym, ◌∙◌, subst, slice_get}
+use Rattle.std.proofs.Common.{◌≡◌, ℕ, zero, suc, ◌+◌, ◌%◌, List, [], ◌∷◌, ◌++◌, map, length, Bool, true, false, Option, Some, None, refl, ap, ◌∙◌, subst, slice_get}
 use Rattle.std.specs.Prelude.{◌==◌, if◌then◌else◌}
 use Rattle.vk_model.specs.declared.entry.Entry.{Entry}
 use Rattle.vk_model.specs.Basics.{holds}
@@ -7,7 +7,7 @@ use Rattle.vk_model.specs.Trace.Point.{Past}
 use Rattle.vk_model.specs.World.Bytes.{resource_at}
 use Rattle.vk_model.specs.Run.Runs.{Step, Apply, RunPiece, CopyPart, Stage, atom_count, applied}
 use Rattle.vk_model.specs.Run.Picks.{Choice, Take, Go, Picked, stepped, options, pick_of, held_after, held_after_step, picks, most_picks, atom_picks, before_entry, entry_picks, trace_picks}
-use Rattle.vk_model.specs.Run.CachedRuns.{Touch, CachedStep, Does, Touches}
+use Rattle.vk_model.specs.Run.CachedRuns.{Touch, Does, Touches}
 use Rattle.vk_laws.specs.CachedRuns.{steps_of}
 use Rattle.vk_laws.proofs.DirectRuns.RunsOn.{steps_joined}
 use Rattle.vk_cache_laws.specs.CachedPicks.{touch_of, resources_of, touches_by, CachedPicked, cache_picks, touches_after, picks_through, before_entry_through, entry_picks_through, trace_picks_through, ArePicks}

@@ -2,3 +2,4 @@ pub mod CachedPicks
 pub mod InPlace
 pub mod InPlaceRuns
 pub mod ThroughCaches
+pub mod LateRuns
