@@ -6,3 +6,4 @@ mod FreeLemmas
 mod LeftLemmas
 mod EventLemmas
 pub mod UnseenLemmas
+mod Describing

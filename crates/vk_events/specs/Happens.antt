@@ -11,6 +11,7 @@ use Rattle.vk_model.specs.Run.Runs.{Name, is_done, node_pieces}
 use Rattle.vk_model.specs.Run.CachedRuns.{is_synchronization, makes_byte_visible}
 use Rattle.vk_order.specs.declared.lines.Line.TheVariants.{Commands as OfCommands}
 use Rattle.vk_order.specs.Lines.{line_of, place}
+use Rattle.vk_laws.specs.WriteBacks.{follows_commands}
 use Rattle.vk_events.specs.declared.event.Event.{Event}
 use Rattle.vk_events.specs.declared.event.Range.{Range}
 use Rattle.vk_events.specs.declared.event.Range.TheVariants as range
@@ -59,5 +60,5 @@ pub record IsEvent (e : Event) (ns : List Node) (n : Node) : Type 0 where
   pub number : e.number ≡ n.number
   pub queue : e.queue ≡ n.point.queue
   pub place : e.place ≡ place ns (OfCommands n.point.queue) n.number
-  pub available : (cached : Byte → Bool) (ms : List Node) (b : Byte) → makes_writes_available cached ms n b n.act ≡ (e.makes_available && is_on e.range b)
+  pub available : (cached : Byte → Bool) (ms : List Node) (b : Byte) → (follows_commands n.act && makes_writes_available cached ms n b n.act) ≡ (e.makes_available && is_on e.range b)
   pub visible : (past : Past) (b : Byte) → makes_byte_visible past n b ≡ (e.makes_visible && is_on e.range b)

@@ -1,7 +1,8 @@
-ghost use Rattle.std.specs.Prelude.{◌≡◌, ◌&&◌, IfSome, IfNone, false, not};
+ghost use Rattle.std.specs.Prelude.{◌≡◌, ◌+◌, ◌&&◌, IfSome, IfNone, false, not};
 ghost use Rattle.vk_model.specs.Basics.{has_some};
 ghost use Rattle.vk_model.specs.World.Bytes as world;
 ghost use Rattle.vk_model.specs.World.Ownership as ownership;
+ghost use Rattle.vk_model.specs.Sync.Edge as edge;
 ghost use Rattle.vk_model.specs.Sync.Seen as seen;
 ghost use Rattle.vk_model.specs.Run.CachedRuns.{is_synchronization, any_access};
 ghost use Rattle.vk_order.specs.NodeViews.{act_of};
@@ -9,11 +10,14 @@ ghost use Rattle.vk_events.specs.Happens.{is_on};
 ghost use Rattle.vk_events.specs.Inner.Described.{IsOf};
 
 use bitflags::Flags;
-use vk_model::{Accesses, Dependency, Element, Length, SubresourceRange};
+use vk_model::{Accesses, Dependency, Element, Length, Stages, SubresourceRange};
 use vk_order::{Act, Row, is_acquire, is_release};
 
 /// The accesses by which commands write.
 const WRITES: Accesses = Accesses(Accesses::TRANSFER_WRITE.0 | Accesses::MEMORY_WRITE.0);
+
+/// The stages in which commands run.
+const COMMANDS: Stages = Stages(Stages::TRANSFER.0 | Stages::ALL_COMMANDS.0);
 
 /// All kinds of access.
 const ANY: Accesses = Accesses(
@@ -57,7 +61,7 @@ pub struct Event {
     pub queue: u32,
     /// How many commands of the queue came before it, in submission order.
     pub place: usize,
-    /// Whether it makes commands' writes of the bytes in its range available.
+    /// Whether it makes available what earlier commands of its queue wrote of the bytes in its range.
     pub makes_available: bool,
     /// Whether it makes available writes of the bytes in its range visible.
     pub makes_visible: bool,
@@ -76,17 +80,13 @@ impl Event {
         let (makes_available, makes_visible, range) = match row.act {
             Act::Hosts(_) | Act::Runs(_) => return None,
             Act::Waits(_) => (false, true, Range::All),
-            Act::Signals(_) => (true, false, Range::All),
+            Act::Signals(signal) => (has_commands(signal.stages), false, Range::All),
             Act::Barrier(element) => (
                 makes_available(queue, element),
                 makes_visible(queue, element),
                 range_of(element),
             ),
-            Act::Set(_, _, dependency) => (
-                dependency.source_accesses.intersects(WRITES),
-                false,
-                Range::All,
-            ),
+            Act::Set(_, _, dependency) => (frees(dependency), false, Range::All),
             Act::Await(_, _, dependency) => (
                 false,
                 dependency.destination_accesses.intersects(ANY),
@@ -104,11 +104,27 @@ impl Event {
     }
 }
 
+/// Whether commands run in some of these stages.
+fn has_commands(stages: Stages) -> bool
+    ensures { result ≡ has_some stages.0 (edge.transfer_stage + edge.all_commands) }
+{
+    stages.intersects(COMMANDS)
+}
+
+/// Whether a dependency makes available what commands before it wrote: they run in its source stages,
+/// and it has an access by which they write.
+fn frees(dependency: &Dependency) -> bool
+    ensures { result ≡ (has_some dependency.now.source_stages.0 (edge.transfer_stage + edge.all_commands) && has_some dependency.now.source_accesses.0 (seen.command_mask seen.Write)) }
+{
+    has_commands(dependency.source_stages) && dependency.source_accesses.intersects(WRITES)
+}
+
 /// Whether an element of a barrier makes commands' writes in its range available.
 fn makes_available(queue: u32, element: &Element) -> bool
-    ensures { result ≡ (not (ownership.is_acquire queue element.now) && has_some (ownership.dependency_of element.now).source_accesses.0 (seen.command_mask seen.Write)) }
+    ensures { result ≡ (not (ownership.is_acquire queue element.now)
+        && (has_some (ownership.dependency_of element.now).source_stages.0 (edge.transfer_stage + edge.all_commands) && has_some (ownership.dependency_of element.now).source_accesses.0 (seen.command_mask seen.Write))) }
 {
-    !is_acquire(queue, element) && dependency_of(element).source_accesses.intersects(WRITES)
+    !is_acquire(queue, element) && frees(&dependency_of(element))
 }
 
 /// Whether it makes available writes in its range visible, to whichever accesses.
