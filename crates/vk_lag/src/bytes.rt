@@ -4,6 +4,10 @@ ghost use Rattle.vk_lag.specs.Lags.{late_in, is_between, caught_up, in_memory};
 use crate::late::{Due, Late, Writer, catch_up, look, make_late};
 use std::alloc::{AllocError, Global};
 use std::marker::Model;
+use vk_heap::Region;
+
+/// How many bytes are taken from a region at a time.
+const CHUNK: usize = 256;
 
 /// Which bytes of a memory object are late. Contracts see that of each byte.
 #[derive(Drop)]
@@ -69,6 +73,38 @@ impl LateBytes {
             self.low = at;
             self.high = end;
         }
+    }
+
+    /// So many bytes from byte `at` on become late, of which memory still has what a region has there.
+    pub(crate) fn write_from(&mut self, at: usize, size: usize, region: &Region, writer: Writer)
+        requires room { at + size ≤ length self.old }
+        requires within { at + size ≤ length region.now }
+        ensures len { length self.new ≡ length self.old }
+        ensures bytes { (k : ℕ) → late_in self.new k
+            ≡ (if is_between at (at + size) k then Some (record { writer = writer; value = slice_index region.now k }) else late_in self.old k) }
+    {
+        let _sizes = (self.bytes.len(), region.size());
+        let mut done = 0;
+        while done < size {
+            let count = CHUNK.min(size - done);
+            self.write_chunk(at + done, count, region, writer);
+            done += count;
+        }
+    }
+
+    /// The same of a chunk at most.
+    fn write_chunk(&mut self, at: usize, count: usize, region: &Region, writer: Writer)
+        requires few { count ≤ 256 }
+        requires room { at + count ≤ length self.old }
+        requires within { at + count ≤ length region.now }
+        ensures len { length self.new ≡ length self.old }
+        ensures bytes { (k : ℕ) → late_in self.new k
+            ≡ (if is_between at (at + count) k then Some (record { writer = writer; value = slice_index region.now k }) else late_in self.old k) }
+    {
+        let mut values = [0; CHUNK];
+        let chunk = &mut values[..count];
+        region.read(at as u64, chunk);
+        self.write(at, chunk, writer);
     }
 
     /// Memory catches up with the bytes from byte `low` to before byte `high` that are due.

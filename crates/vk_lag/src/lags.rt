@@ -5,6 +5,7 @@ use crate::bytes::LateBytes;
 use crate::late::{Due, Late, Writer};
 use std::alloc::{AllocError, Global};
 use std::marker::Model;
+use vk_heap::Region;
 
 /// Which bytes of memory objects are late, by the numbers of the objects. Contracts see that of each
 /// byte of each object that was added.
@@ -78,6 +79,21 @@ impl Lags {
         if object < self.objects.as_slice().len() as u64 {
             if let Some(bytes) = &mut self.objects[object as usize] {
                 bytes.write(at as usize, values, writer);
+            }
+        }
+    }
+
+    /// So many bytes from byte `at` on become late, as a command of a queue is about to write them: memory
+    /// still has what its region has there.
+    pub fn write_from(&mut self, object: u64, at: u64, size: u64, region: &Region, writer: Writer)
+        requires room { at + size ≤ length (object_in self.old object) }
+        requires within { at + size ≤ length region.now }
+        ensures { Changes object (λ k byte. if is_between at (at + size) k then Some (record { writer = writer; value = slice_index region.now k }) else byte) self.old self.new }
+    {
+        let _size = region.size();
+        if object < self.objects.as_slice().len() as u64 {
+            if let Some(bytes) = &mut self.objects[object as usize] {
+                bytes.write_from(at as usize, size as usize, region, writer);
             }
         }
     }
