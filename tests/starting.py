@@ -18,7 +18,7 @@ sys.dont_write_bytecode = True
 
 from harness import TOP, Answer, Test, difference, main, run
 
-SCRIPTS = ("replay", "explain", "emit", "tools/program", "tools/build", "tools/crates.sh", "tools/release", ".ci/no_toolchain")
+SCRIPTS = ("replay", "explain", "emit", "tools/drawing.sh", "tools/drawing.txt", "tools/program", "tools/build", "tools/crates.sh", "tools/release", ".ci/no_toolchain")
 PROGRAMS = ("replay", "explain", "emit")
 CRATES = "low:\nvk_replay: low\nexplain: low\nemit: low\n"
 FILES = {
@@ -141,6 +141,19 @@ def file_taken_away(repository):
     shutil.rmtree(repository.top / "crates/low/proofs")
 
 
+def helps_with_pictures(repository):
+    """The help of ./explain has that of its pictures behind it; where the program fails, or the output, it ends so."""
+    lines = (TOP / "tools/drawing.txt").read_text(encoding="utf-8")
+    for argument in ("--help", "-h"):
+        found = difference(said(f"released {argument}\n\n{lines}"), repository.start("explain", argument))
+        if found:
+            return found
+    found = difference(said("released -- --help\n"), repository.start("explain", "--", "--help"))
+    repository.program("built/explain", '[ "$1" = --version ] && echo "explain 1.2.3" || exit 4')
+    repository.release()
+    return found or difference(said("", 4), repository.start("explain", "--help"))
+
+
 def runs_what_was_built(repository):
     """What was built of the sources runs until they change, also where the release is of others."""
     line_changed(repository)
@@ -230,6 +243,7 @@ def compares_the_release(repository):
 
 def all_tests():
     yield tested("the released program", runs_the_release)
+    yield tested("the help of pictures", helps_with_pictures)
     yield tested("a line that is changed, and back", lambda r: changed_and_back(r, line_changed, line_back))
     yield tested("a file that is added, and gone", lambda r: changed_and_back(r, file_added, file_taken_away))
     yield tested("what was built", runs_what_was_built)
