@@ -169,7 +169,7 @@ def explained(arguments, text=b"", **environment):
 def judge_beside(name, ways):
     """The explanation is written as without a picture, and the picture as tools/picture.py draws it."""
     text = (EXAMPLES / f"{name}.json").read_bytes()
-    file = Path(ROOM.name) / f"{name}.svg"
+    file = Path(ROOM.name) / f"{name}{''.join(ways)}.svg"
     for option, drawn in (("--picture", []), ("--timeline", ["--timeline"])):
         for given, data in (([str(EXAMPLES / f"{name}.json")], b""), (["-"], text), ([], text)):
             file.unlink(missing_ok=True)
