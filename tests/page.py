@@ -28,7 +28,7 @@ sys.path += [str(TOP / "tools"), str(TOP / "tools" / "page")]
 
 from build import assembled, examples
 from module import found_module
-from pictured import Drawing
+from pictured import FIT, Drawing
 
 ROOM = tempfile.TemporaryDirectory()
 PAGE = Path(ROOM.name) / "index.html"
@@ -153,8 +153,9 @@ def judge_seen(found):
     if ("repair:" in said["text"]) != bool(found["mended"]) or (found["mended"] and "accepted" not in found["mended"]):
         return f"{name}: after the repair: {found['mended']}"
     object_ = json.loads(of_program([EXPLAIN, "--json"], trace)["text"])
-    drawn = None if object_["verdict"] == "no trace" else Drawing(json.loads(trace), object_).svg(False)
-    if found["picture"] != drawn:
+    # (how wide its lanes are depends on the window)
+    pictures = [Drawing(json.loads(trace), object_, fit).svg(False) for fit in range(1, FIT + 1)] if found["picture"] else [None]
+    if found["picture"] not in pictures or (found["picture"] is None) != (object_["verdict"] == "no trace"):
         return f"{name}: another picture: {found['picture']}"
     return None if found["fits"] else f"{name}: the page is wider than the window"
 

@@ -14,7 +14,7 @@ from people_tools import EXAMPLES
 
 sys.path.append(str(TOP / "tools"))
 
-from pictured import EDGE, FIT, LANE, LINE, Drawing
+from pictured import EDGE, FIT, LINE, Drawing, lane_width
 from pictured_edits import Edited
 from pictured_points import points_of
 
@@ -23,6 +23,8 @@ SCRIPT = str(TOP / "explain")
 ROOM = tempfile.TemporaryDirectory()
 # A character of the picture's font is no wider.
 CHARACTER = 7.3
+# The characters of a line where the page has little room.
+LEAST_FIT = 24
 
 
 def traces():
@@ -42,9 +44,9 @@ def boxes_of(picture):
     return found
 
 
-def judge_boxes(said, boxes):
+def judge_boxes(said, boxes, fit):
     """No box is over another one, no text leaves its box, the refused point is red, and each edit is drawn."""
-    if FIT * CHARACTER > LANE - 16 or any(len(line) > FIT for _, lines, _, _ in boxes for line in lines):
+    if fit * CHARACTER > lane_width(fit) - 16 or any(len(line) > fit for _, lines, _, _ in boxes for line in lines):
         return "a text leaves its box"
     if any(height != EDGE + LINE * len(lines) for _, lines, _, height in boxes):
         return "a box isn't as high as its lines"
@@ -63,10 +65,10 @@ def judge_boxes(said, boxes):
 def judge_drawn(text):
     """The picture of what lies around, and of the whole trace, is well formed, with its boxes as they should be."""
     said = json.loads(run([EXPLAIN, "--json"], text).output)
-    for is_whole in (False, True):
-        found = judge_boxes(said, boxes_of(Drawing(json.loads(text), said).svg(is_whole)))
+    for is_whole, fit in ((False, FIT), (True, FIT), (False, LEAST_FIT)):
+        found = judge_boxes(said, boxes_of(Drawing(json.loads(text), said, fit).svg(is_whole)), fit)
         if found:
-            return f"{'whole' if is_whole else 'around'}: {found}"
+            return f"{'whole' if is_whole else 'around'}, {fit} characters a line: {found}"
     return None
 
 
@@ -278,17 +280,19 @@ def judge_scripts():
     asked = []
     for path, text in traces():
         said = json.loads(run([EXPLAIN, "--json"], text).output)
-        asked += [{"name": path.stem, "trace": text.decode(), "said": said, "whole": whole} for whole in (False, True)]
+        one = {"name": path.stem, "trace": text.decode(), "said": said, "whole": False, "room": 0}
+        asked += [one, {**one, "whole": True}, {**one, "room": 1}]
     # (numbers beyond those of JavaScript, a layout and bits without a name)
     element = [1, 1 << 31, 0, 0, 4294967295, 4294967295, 3, 5, 7, [0, 1, 0, 1]]
     large = [["semaphore", 1, 2**64 - 2], ["signal", 1, 2**64 - 1], ["wait", [[1, 2**64 - 1]]]]
     large += [["submit", 0, [[[], [["barrier", [], [], [element]], ["fill", 4, 2**63, 2**63, 0]], []]]]]
-    asked.append({"name": "large", "trace": json.dumps(large), "said": {"verdict": "accepted"}, "whole": True})
+    asked.append({"name": "large", "trace": json.dumps(large), "said": {"verdict": "accepted"}, "whole": True, "room": 0})
     ran = run(["node", str(TOP / "tests" / "page_picture.js")], json.dumps(asked).encode())
     if ran.status != 0:
         return str(ran)
     for each, found in zip(asked, json.loads(ran.output)):
-        wanted = Drawing(json.loads(each["trace"]), each["said"]).svg(each["whole"])
+        fit = LEAST_FIT if each["room"] else FIT
+        wanted = Drawing(json.loads(each["trace"]), each["said"], fit).svg(each["whole"])
         if found != wanted:
             return f"{each['name']}: {found[:2000]}\n  wanted: {wanted[:2000]}"
     return None

@@ -10,11 +10,10 @@ from typing import NamedTuple, Optional
 from pictured_edits import Edited
 from pictured_points import points_of
 
-HEAD, GAP, LEFT = 54, 26, 24
-LANE, BETWEEN = 320, 36
+HEAD, GAP, LEFT, BETWEEN = 54, 26, 24, 36
 # Pixels of a line of a box, of what a box has beyond its lines, and between two boxes.
 LINE, EDGE, SPACE = 15, 7, 8
-# Characters of a line that fit into a box, lines that a box has at most, and pixels of a character below the lanes.
+# Characters of a line of a box, lines that a box has at most, and pixels of a character below the lanes.
 FIT, MOST_LINES, CHARACTER = 41, 12, 8
 # Points of a picture of a whole trace, and points that order others between two that are named.
 MOST_POINTS = 400
@@ -56,9 +55,14 @@ def wrapped(text, fit):
     return lines
 
 
-def boxed(text):
+def lane_width(fit):
+    """The pixels of a box in which so many characters fit in a line."""
+    return 74 * fit // 10 + 17
+
+
+def boxed(text, fit):
     """The lines of a text in a box; of one that is too long how many lines more there are."""
-    lines = wrapped(text, FIT)
+    lines = wrapped(text, fit)
     if len(lines) <= MOST_LINES:
         return lines
     return [*lines[: MOST_LINES - 1], f"… {len(lines) - MOST_LINES + 1} more lines"]
@@ -85,9 +89,11 @@ class Shown(NamedTuple):
 
 
 class Drawing:
-    """A picture of a trace, by what `explain --json` said of it."""
+    """A picture of a trace, by what `explain --json` said of it, with so many characters in a line of a box."""
 
-    def __init__(self, trace, said):
+    def __init__(self, trace, said, fit=FIT):
+        self.fit = fit
+        self.lane_width = lane_width(fit)
         self.points = points_of(trace)
         self.said = said
         self.at = said.get("at")
@@ -133,17 +139,17 @@ class Drawing:
 
     def x(self, lane):
         """Where a lane begins."""
-        return LEFT + self.lanes.index(lane) * (LANE + BETWEEN)
+        return LEFT + self.lanes.index(lane) * (self.lane_width + BETWEEN)
 
     def box(self, lane, y, kind, words):
         """A box with its words; answers where the next one begins."""
-        x, lines = self.x(lane), boxed(words)
+        x, lines = self.x(lane), boxed(words, self.fit)
         height = EDGE + LINE * len(lines)
         rows = "".join(
             f'<text x="{x + 8}" y="{y + LINE * (k + 1)}">{escape(line)}</text>' for k, line in enumerate(lines)
         )
         self.boxes.append(
-            f'<g><title>{escape(words)}</title><rect class="{kind}" x="{x}" y="{y}" width="{LANE}" height="{height}" rx="4"/>{rows}</g>'
+            f'<g><title>{escape(words)}</title><rect class="{kind}" x="{x}" y="{y}" width="{self.lane_width}" height="{height}" rx="4"/>{rows}</g>'
         )
         return y + height + SPACE
 
@@ -181,13 +187,13 @@ class Drawing:
 
     def arrow(self, kind, one, other):
         """A curve from one row to another, at the sides of their boxes that face each other."""
-        y, end = one.y, other.y
+        y, end, wide = one.y, other.y, self.lane_width
         x, goal = self.x(one.lane), self.x(other.lane)
         if x == goal:
-            side, bend = x + LANE, x + LANE + 24
+            side, bend = x + wide, x + wide + 24
             path = f"M{side},{y + 11} C{bend},{y + 11} {bend},{end + 11} {side + 2},{end + 11}"
         else:
-            start, stop = (x + LANE, goal - 2) if x < goal else (x, goal + LANE + 2)
+            start, stop = (x + wide, goal - 2) if x < goal else (x, goal + wide + 2)
             middle = (start + stop) // 2
             path = f"M{start},{y + 11} C{middle},{y + 11} {middle},{end + 11} {stop},{end + 11}"
         self.arrows.append(f'<path class="{kind}" d="{path}" marker-end="url(#{HEADS[kind]})"/>')
@@ -200,7 +206,7 @@ class Drawing:
                 continue
             x, top, height = self.x(rows[0].lane) - 6, rows[0].top - 5, rows[-1].end - rows[0].top + 10
             self.arrows.append(
-                f'<rect class="batch" x="{x}" y="{top}" width="{LANE + 12}" height="{height}" rx="6"/>'
+                f'<rect class="batch" x="{x}" y="{top}" width="{self.lane_width + 12}" height="{height}" rx="6"/>'
             )
             submit = self.rows.get(str(batch[0]))
             if submit:
@@ -246,7 +252,7 @@ class Drawing:
 
     def width(self):
         """How wide the picture is."""
-        return LEFT + max(2, len(self.lanes)) * (LANE + BETWEEN)
+        return LEFT + max(2, len(self.lanes)) * (self.lane_width + BETWEEN)
 
     def svg(self, whole):
         """The picture: of the whole trace, or of what lies around the refused point, if there is one."""

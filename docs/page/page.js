@@ -63,7 +63,7 @@ function draw() {
   const isTrace = said !== null && said.verdict !== "no trace";
   get("drawn").hidden = !isTrace;
   if (!isTrace) return;
-  const picture = pictured(get("trace").value, said, get("whole").checked);
+  const picture = pictured(get("trace").value, said, get("whole").checked, get("frame").clientWidth || get("drawn").clientWidth);
   get("part").hidden = said.verdict === "accepted";
   get("undrawn").hidden = picture !== null;
   get("undrawn").textContent = `A trace of more than ${MOST_POINTS} points isn't drawn whole.`;
@@ -180,5 +180,6 @@ get("order").addEventListener("change", () => {
 });
 get("seed").addEventListener("input", changed);
 get("whole").addEventListener("change", draw);
+window.addEventListener("resize", draw);
 window.addEventListener("hashchange", openNamed);
 start();

@@ -2,8 +2,8 @@
 // Draws points of a trace as SVG: a lane for the host and one for each queue, time downward. This is what
 // tools/pictured.py, pictured_points.py and pictured_edits.py do, and the tests compare the two.
 
-const HEAD = 54, GAP = 26, LEFT = 24, LANE = 320, BETWEEN = 36, LINE = 15, EDGE = 7, SPACE = 8;
-const FIT = 41, MOST_LINES = 12, CHARACTER = 8, MOST_POINTS = 400, AROUND = 3;
+const HEAD = 54, GAP = 26, LEFT = 24, BETWEEN = 36, LINE = 15, EDGE = 7, SPACE = 8;
+const FIT = 41, LEAST_FIT = 24, MOST_LINES = 12, CHARACTER = 8, MOST_POINTS = 400, AROUND = 3;
 const NAMED = /\b[0-9]+\.[0-9]+\.[ws]?[0-9]+\b|(?<=\bentry )[0-9]+\b/g;
 const ORDERING = ["barrier", "set", "await", "wait", "signal", "submit"];
 const HEADS = { flow: "tip", wait: "tip-wait", missing: "tip-missing" };
@@ -214,8 +214,11 @@ function wrapped(text, fit) {
   return lines;
 }
 
-function boxed(text) {
-  const lines = wrapped(text, FIT);
+// The pixels of a box in which so many characters fit in a line.
+const laneWidth = (fit) => Math.floor((74 * fit) / 10) + 17;
+
+function boxed(text, fit) {
+  const lines = wrapped(text, fit);
   if (lines.length <= MOST_LINES) return lines;
   return [...lines.slice(0, MOST_LINES - 1), `… ${lines.length - MOST_LINES + 1} more lines`];
 }
@@ -228,9 +231,9 @@ function tip(name) {
   return `${head}<path d="M0,0 L8,4 L0,8 z"/></marker>`;
 }
 
-// A picture of a trace, by what explain says of it as an object.
+// A picture of a trace, by what explain says of it as an object, for some pixels of room.
 class Drawing {
-  constructor(trace, said) {
+  constructor(trace, said, room) {
     this.points = pointsOf(trace);
     this.said = said;
     this.at = said.at || null;
@@ -249,6 +252,9 @@ class Drawing {
     this.rows = new Map();
     this.boxes = [];
     this.arrows = [];
+    this.fit = FIT;
+    // As many characters in a line as there is room for, where that is known.
+    while (room && this.fit > LEAST_FIT && this.width() > room) this.fit -= 1;
   }
 
   takeEdits(trace) {
@@ -278,15 +284,15 @@ class Drawing {
   }
 
   x(lane) {
-    return LEFT + this.lanes.indexOf(lane) * (LANE + BETWEEN);
+    return LEFT + this.lanes.indexOf(lane) * (laneWidth(this.fit) + BETWEEN);
   }
 
   // A box with its words; answers where the next one begins.
   box(lane, y, kind, words) {
-    const x = this.x(lane), lines = boxed(words), height = EDGE + LINE * lines.length;
+    const x = this.x(lane), lines = boxed(words, this.fit), height = EDGE + LINE * lines.length;
     const rows = lines.map((line, k) => `<text x="${x + 8}" y="${y + LINE * (k + 1)}">${escaped(line)}</text>`).join("");
     this.boxes.push(
-      `<g><title>${escaped(words)}</title><rect class="${kind}" x="${x}" y="${y}" width="${LANE}" height="${height}" rx="4"/>${rows}</g>`,
+      `<g><title>${escaped(words)}</title><rect class="${kind}" x="${x}" y="${y}" width="${laneWidth(this.fit)}" height="${height}" rx="4"/>${rows}</g>`,
     );
     return y + height + SPACE;
   }
@@ -320,13 +326,13 @@ class Drawing {
 
   // A curve from one row to another, at the sides of their boxes that face each other.
   arrow(kind, one, other) {
-    const y = one.y + 11, end = other.y + 11, x = this.x(one.lane), goal = this.x(other.lane);
+    const y = one.y + 11, end = other.y + 11, x = this.x(one.lane), goal = this.x(other.lane), wide = laneWidth(this.fit);
     let path;
     if (x === goal) {
-      const side = x + LANE, bend = x + LANE + 24;
+      const side = x + wide, bend = x + wide + 24;
       path = `M${side},${y} C${bend},${y} ${bend},${end} ${side + 2},${end}`;
     } else {
-      const [start, stop] = x < goal ? [x + LANE, goal - 2] : [x, goal + LANE + 2];
+      const [start, stop] = x < goal ? [x + wide, goal - 2] : [x, goal + wide + 2];
       const middle = Math.floor((start + stop) / 2);
       path = `M${start},${y} C${middle},${y} ${middle},${end} ${stop},${end}`;
     }
@@ -339,7 +345,7 @@ class Drawing {
       const rows = own.map((point) => this.rows.get(point.name));
       if (!rows.length) continue;
       const x = this.x(rows[0].lane) - 6, top = rows[0].top - 5, height = rows[rows.length - 1].end - rows[0].top + 10;
-      this.arrows.push(`<rect class="batch" x="${x}" y="${top}" width="${LANE + 12}" height="${height}" rx="6"/>`);
+      this.arrows.push(`<rect class="batch" x="${x}" y="${top}" width="${laneWidth(this.fit) + 12}" height="${height}" rx="6"/>`);
       const submit = this.rows.get(batch.split(".")[0]);
       if (submit) this.arrow("flow", submit, rows[0]);
     }
@@ -371,7 +377,7 @@ class Drawing {
   }
 
   width() {
-    return LEFT + Math.max(2, this.lanes.length) * (LANE + BETWEEN);
+    return LEFT + Math.max(2, this.lanes.length) * (laneWidth(this.fit) + BETWEEN);
   }
 
   svg(isWhole) {
@@ -397,8 +403,8 @@ class Drawing {
 }
 
 // The picture of a trace, whole or around the refused point; none where a whole one has too many points.
-function pictured(text, said, isWhole = false) {
-  const drawing = new Drawing(traceOf(text), said);
+function pictured(text, said, isWhole = false, room = 0) {
+  const drawing = new Drawing(traceOf(text), said, room);
   if ((isWhole || drawing.at === null) && drawing.points.length > MOST_POINTS) return null;
   return drawing.svg(isWhole);
 }
