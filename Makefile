@@ -18,6 +18,10 @@ LIB := $(DESTDIR)$(PREFIX)/lib
 INCLUDE := $(DESTDIR)$(PREFIX)/include
 MAN := $(DESTDIR)$(PREFIX)/share/man/man1
 SHARE := $(DESTDIR)$(PREFIX)/share/zorthewin
+LIBEXEC := $(DESTDIR)$(PREFIX)/libexec/zorthewin
+# (what draws for --picture and --timeline of zorthewin-explain)
+DRAWING := drawing.sh drawing.txt explain_drawn.py picture.py pictured.py pictured_edits.py pictured_points.py \
+    command_line.py trace_forms.py
 NAMES := zorthewin-replay zorthewin-explain zorthewin-emit
 
 .PHONY: all library page install install-programs install-library uninstall check
@@ -37,9 +41,11 @@ install-programs:
 	@for program in "$(PROGRAM)" "$(EXPLAIN)" "$(EMIT)"; do \
 	    [ -x "$$program" ] || { echo "install: the programs aren't built: run ./replay, ./explain and ./emit once" >&2; exit 1; }; \
 	done
-	install -d "$(BIN)" "$(MAN)" "$(SHARE)"
+	install -d "$(BIN)" "$(MAN)" "$(SHARE)/tools" "$(LIBEXEC)"
 	install -m 755 "$(PROGRAM)" "$(BIN)/zorthewin-replay"
-	install -m 755 "$(EXPLAIN)" "$(BIN)/zorthewin-explain"
+	install -m 755 "$(EXPLAIN)" "$(LIBEXEC)/explain"
+	install -m 755 tools/installed_explain "$(BIN)/zorthewin-explain"
+	install -m 644 $(DRAWING:%=tools/%) "$(SHARE)/tools"
 	install -m 755 "$(EMIT)" "$(BIN)/zorthewin-emit"
 	install -m 644 $(NAMES:%=man/%.1) "$(MAN)"
 	install -m 644 tools/drive/zw_drive.h "$(SHARE)"
@@ -62,7 +68,7 @@ uninstall:
 	rm -f $(NAMES:%="$(BIN)/%") $(NAMES:%="$(MAN)/%.1")
 	rm -f "$(LIB)/libzorthewin.a" "$(LIB)/libzorthewin.so" "$(LIB)/libzorthewin.so.0"
 	rm -f "$(LIB)/pkgconfig/zorthewin.pc" "$(INCLUDE)/zorthewin.h"
-	rm -rf "$(SHARE)"
+	rm -rf "$(SHARE)" "$(LIBEXEC)"
 
 check:
 	./check

@@ -1,11 +1,12 @@
 #!/usr/bin/env python3
-"""Tests the C library from C, C++, Rust and Python: on all examples it answers as the programs do.
+"""Tests the C library from C, C++, Rust and Python, where on all examples it answers as the programs do; and what
+`make install` installs.
 
     PROGRAM=FILE EXPLAIN=FILE EMIT=FILE tests/c_library.py [WORD]
 
 LIBRARY names the folder with the library; else it is out/library, or release, where that was made of the sources as
-they are (tools/c_library), and where neither was all is skipped. What needs a compiler is skipped without it. With
-WORD only those tests run whose names have it.
+they are (tools/c_library), and where neither was all of the library is skipped. What needs a compiler is skipped
+without it. With WORD only those tests run whose names have it.
 """
 
 import os
@@ -138,33 +139,69 @@ def judge_module():
     return None if "Failed: the C library can't be loaded: /none.so" in last else f"it says: {last}"
 
 
+def installed(top, library):
+    """The names that `make install` takes, once it has installed to a folder; skipped where there is no make."""
+    if not shutil.which("make"):
+        raise Skipped("this needs make")
+    emit = os.environ.get("EMIT") or str(TOP / "emit")
+    names = [f"PREFIX={top}", f"PROGRAM={PROGRAM}", f"EXPLAIN={EXPLAIN}", f"EMIT={emit}", f"LIBRARY={library}"]
+    ran = run(["make", "-C", str(TOP), "install", *names])
+    if ran.status != 0:
+        raise OSError(f"make install: {ran}")
+    return names
+
+
+def uninstalled(top, names):
+    """What `make uninstall` leaves, if anything."""
+    run(["make", "-C", str(TOP), "uninstall", *names])
+    left = [str(path) for path in top.rglob("*") if not path.is_dir()]
+    return f"left: {left}" if left else None
+
+
+def judge_programs():
+    """The programs that `make install` installs run from another folder, by a link, and draw."""
+    top = Path(ROOM.name) / "programs"
+    names = installed(top, "")
+    trace = (EXAMPLES / "missing_dependency.json").read_bytes()
+    (top / "linked").symlink_to(top / "bin" / "zorthewin-explain")
+    for program, like in (("bin/zorthewin-explain", EXPLAIN), ("linked", EXPLAIN), ("bin/zorthewin-replay", PROGRAM)):
+        found = difference(run([like], trace), run([f"{top}/{program}"], trace, cwd="/"))
+        if found:
+            return f"{program}: {found}"
+    picture = top / "picture.svg"
+    paths = {name: value for name, value in os.environ.items() if name != "EXPLAIN"}
+    found = difference(run([EXPLAIN], trace), run([f"{top}/linked", "--picture", str(picture)], trace, env=paths))
+    if found or picture.read_bytes() != (TOP / "docs" / "missing_dependency.svg").read_bytes():
+        return found or "another picture"
+    help_ = run([f"{top}/bin/zorthewin-explain", "--help"])
+    if help_.status != 0 or b"--picture <FILE>" not in help_.output:
+        return f"--help: {help_}"
+    if list(top.rglob("__pycache__")):
+        return "drawing leaves files behind"
+    picture.unlink()
+    (top / "linked").unlink()
+    return uninstalled(top, names)
+
+
 def judge_install():
-    """What `make install` installs compiles by pkg-config and runs, and `make uninstall` leaves nothing."""
-    for tool in ("make", "pkg-config", "cc"):
+    """The library that `make install` installs compiles by pkg-config and runs, and `make uninstall` leaves nothing."""
+    for tool in ("pkg-config", "cc"):
         if not shutil.which(tool):
             raise Skipped(f"this needs {tool}")
     top = Path(ROOM.name) / "prefix"
-    emit = os.environ.get("EMIT") or str(TOP / "emit")
-    names = [f"PREFIX={top}", f"PROGRAM={PROGRAM}", f"EXPLAIN={EXPLAIN}", f"EMIT={emit}", f"LIBRARY={FOLDER}"]
-    ran = run(["make", "-C", str(TOP), "install", *names])
-    if ran.status != 0:
-        return str(ran)
+    names = installed(top, FOLDER)
     paths = {**os.environ, "PKG_CONFIG_PATH": f"{top}/lib/pkgconfig"}
     words = run(["pkg-config", "--cflags", "--libs", "zorthewin"], env=paths).output.decode().split()
     ran = run(["cc", f"{EXAMPLES}/c/judge.c", *words, "-o", f"{top}/judge"])
     if ran.status != 0:
         return str(ran)
     trace = (EXAMPLES / "missing_dependency.json").read_bytes()
-    for program in ("bin/zorthewin-explain", "judge"):
-        found = difference(
-            run([EXPLAIN], trace), run([f"{top}/{program}"], trace, env={**os.environ, "LD_LIBRARY_PATH": f"{top}/lib"})
-        )
-        if found:
-            return f"{program}: {found}"
+    paths = {**os.environ, "LD_LIBRARY_PATH": f"{top}/lib"}
+    found = difference(run([EXPLAIN], trace), run([f"{top}/judge"], trace, env=paths))
+    if found:
+        return found
     (top / "judge").unlink()
-    run(["make", "-C", str(TOP), "uninstall", *names])
-    left = [str(path) for path in top.rglob("*") if not path.is_dir()]
-    return f"left: {left}" if left else None
+    return uninstalled(top, names)
 
 
 def skip():
@@ -172,10 +209,8 @@ def skip():
     raise Skipped("the C library isn't built of these sources (make library)")
 
 
-def all_tests():
-    """All of them."""
-    if FOLDER is None:
-        return [Test("C library", skip)]
+def library_tests():
+    """Those of the library: how many there are is counted where it isn't there, too."""
     tests = [
         Test("C library: edges", judge_edges),
         Test("C library: names", judge_names),
@@ -185,6 +220,12 @@ def all_tests():
     tests.append(Test("C library: Python, all examples", lambda: judge_all(judge_python)))
     for language in LANGUAGES:
         tests.append(Test(f"C library: {language}, all examples", lambda l=language: judge_language(l)))
+    return tests if FOLDER else [test._replace(judge=skip) for test in tests]
+
+
+def all_tests():
+    """All of them."""
+    tests = [Test("make install: the programs", judge_programs), *library_tests()]
     word = sys.argv[1] if len(sys.argv) > 1 else ""
     return [test for test in tests if word in test.name]
 

@@ -24,10 +24,11 @@ sys.dont_write_bytecode = True
 
 from harness import EXPLAIN, PROGRAM, TOP, Skipped, Test, main, run
 
-sys.path.append(str(TOP / "tools" / "page"))
+sys.path += [str(TOP / "tools"), str(TOP / "tools" / "page")]
 
 from build import assembled, examples
 from module import found_module
+from pictured import FIT, Drawing
 
 ROOM = tempfile.TemporaryDirectory()
 PAGE = Path(ROOM.name) / "index.html"
@@ -151,6 +152,11 @@ def judge_seen(found):
         return f"{name}: marked: {found['marked']}"
     if ("repair:" in said["text"]) != bool(found["mended"]) or (found["mended"] and "accepted" not in found["mended"]):
         return f"{name}: after the repair: {found['mended']}"
+    object_ = json.loads(of_program([EXPLAIN, "--json"], trace)["text"])
+    # (how wide its lanes are depends on the window)
+    pictures = [Drawing(json.loads(trace), object_, fit).svg(False) for fit in range(1, FIT + 1)] if found["picture"] else [None]
+    if found["picture"] not in pictures or (found["picture"] is None) != (object_["verdict"] == "no trace"):
+        return f"{name}: another picture: {found['picture']}"
     return None if found["fits"] else f"{name}: the page is wider than the window"
 
 
@@ -168,15 +174,16 @@ def skip():
 
 
 def all_tests():
-    """All of them."""
+    """All of them; how many there are is counted where there is no module, too."""
     module = os.environ.get("MODULE") or found_module()
-    if module is None:
-        return [Test("page", skip)]
-    PAGE.write_text(assembled(Path(module).read_bytes()))
-    return [
+    tests = [
         Test("page: all examples under node", judge_node),
         Test("page: some examples in a browser", judge_browser),
     ]
+    if module is None:
+        return [test._replace(judge=skip) for test in tests]
+    PAGE.write_text(assembled(Path(module).read_bytes()))
+    return tests
 
 
 if __name__ == "__main__":

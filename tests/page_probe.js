@@ -16,7 +16,12 @@ async function probe() {
   for (const name of NAMES) {
     location.hash = encodeURIComponent(name);
     while (document.body.dataset.judged !== name) await pause();
-    const one = { name, seen: seen(), mended: null };
+    const one = { name, seen: seen(), mended: null, picture: null };
+    if (!document.getElementById("drawn").hidden) {
+      const image = document.getElementById("picture");
+      await image.decode();
+      one.picture = decodeURIComponent(image.src.slice(image.src.indexOf(",") + 1));
+    }
     if (!document.getElementById("mend").hidden) {
       document.getElementById("apply").click();
       one.mended = seen();

@@ -1,6 +1,6 @@
 #!/usr/bin/env python3
-"""Tests the tools for people, tools/names.py, tools/smallest.py, tools/each, tools/picture.py and tools/zorthewin,
-and the examples of docs/FORMAT.md.
+"""Tests the tools for people, tools/names.py, tools/smallest.py, tools/each, tools/picture.py, ./explain --picture and
+tools/zorthewin, and the examples of docs/FORMAT.md.
 
     PROGRAM=FILE EXPLAIN=FILE tests/people.py [WORD]
 

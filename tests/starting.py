@@ -1,5 +1,6 @@
 #!/usr/bin/env python3
-"""Tests which program ./replay, ./explain and ./emit run: one that was built here, the released one, or a new build.
+"""Tests which program ./replay, ./explain and ./emit run: one that was built here, the released one, or a new build;
+and what a release has.
 
     tests/starting.py
 
@@ -18,9 +19,9 @@ sys.dont_write_bytecode = True
 
 from harness import TOP, Answer, Test, difference, main, run
 
-SCRIPTS = ("replay", "explain", "emit", "tools/program", "tools/build", "tools/crates.sh", "tools/release", ".ci/no_toolchain")
+SCRIPTS = ("replay", "explain", "emit", "tools/drawing.sh", "tools/drawing.txt", "tools/program", "tools/build", "tools/crates.sh", "tools/release", "tools/c_library", ".ci/no_toolchain")
 PROGRAMS = ("replay", "explain", "emit")
-CRATES = "low:\nvk_replay: low\nexplain: low\nemit: low\n"
+CRATES = "low:\nvk_replay: low\nexplain: low\nemit: low\nzorthewin_c staticlib: low\n"
 FILES = {
     "crates.txt": CRATES,
     "VERSION": "1.2.3\n",
@@ -29,6 +30,7 @@ FILES = {
     "crates/vk_replay/src/main.rt": "// two\n",
     "crates/explain/src/main.rt": "// three\n",
     "crates/emit/src/main.rt": "// four\n",
+    "crates/zorthewin_c/src/lib.rt": "// five\n",
 }
 # A stand-in for `rt`, which "builds" a program that says that it was built of the sources as they are.
 TOOLCHAIN = """\
@@ -141,6 +143,19 @@ def file_taken_away(repository):
     shutil.rmtree(repository.top / "crates/low/proofs")
 
 
+def helps_with_pictures(repository):
+    """The help of ./explain has that of its pictures behind it; where the program fails, or the output, it ends so."""
+    lines = (TOP / "tools/drawing.txt").read_text(encoding="utf-8")
+    for argument in ("--help", "-h"):
+        found = difference(said(f"released {argument}\n\n{lines}"), repository.start("explain", argument))
+        if found:
+            return found
+    found = difference(said("released -- --help\n"), repository.start("explain", "--", "--help"))
+    repository.program("built/explain", '[ "$1" = --version ] && echo "explain 1.2.3" || exit 4')
+    repository.release()
+    return found or difference(said("", 4), repository.start("explain", "--help"))
+
+
 def runs_what_was_built(repository):
     """What was built of the sources runs until they change, also where the release is of others."""
     line_changed(repository)
@@ -228,8 +243,49 @@ def compares_the_release(repository):
     return None if ends == wanted else f"wanted: {wanted}\n  came:   {ends}"
 
 
+def made_beside(repository):
+    """Makes stand-ins for the C library and the page's module, of the sources as they are."""
+    words = 'top=$1; . "$top/tools/crates.sh"; library_sum'
+    found = subprocess.run(["sh", "-c", words, "sh", repository.top], check=True, stdout=subprocess.PIPE).stdout.decode()
+    for name in ("library/libzorthewin.a", "library/libzorthewin.so.0", "page/zorthewin.wasm"):
+        repository.write(f"out/{name}", f"{name} of {found}")
+    repository.write("out/library/RELEASE", f"library {found}")
+    repository.write("out/page/RELEASE", f"module {found}")
+
+
+def takes_the_library_along(repository):
+    """A release has the C library and the module that are of its sources, also those of the last release, and no others."""
+    files = ("libzorthewin.a", "libzorthewin.so.0", "zorthewin.wasm")
+    at_once = [repository.top / "tools/c_library", "--at-once"]
+    compare = [repository.top / "tools/release", "--compare", *(repository.top / "built" / name for name in PROGRAMS)]
+    made_beside(repository)
+    places = [run(at_once).output.decode().strip()]
+    for again in (False, True):
+        repository.release()
+        listed = (repository.top / "release/SHA256SUMS").read_text()
+        missing = [name for name in files if not (repository.top / "release" / name).exists() or name not in listed]
+        if missing:
+            return f"not released{' again' if again else ''}: {missing}"
+        shutil.rmtree(repository.top / "out", ignore_errors=True)
+    places.append(run(at_once).output.decode().strip())
+    wanted = [str(repository.top.resolve() / place) for place in ("out/library", "release")]
+    if [str(pathlib.Path(place).resolve()) for place in places] != wanted:
+        return f"found in {places}; wanted: {wanted}"
+    same = run(compare, env=repository.environment())
+    repository.write("release/libzorthewin.a", "another one")
+    other = run(compare, env=repository.environment())
+    ends = [answer.output.splitlines()[-1] for answer in (same, other)]
+    if ends != [b"10 passed, 0 failed", b"9 passed, 1 failed"]:
+        return f"compared: {ends}"
+    repository.write("crates/zorthewin_c/src/lib.rt", "// other\n")
+    repository.release()
+    left = [name for name in files if (repository.top / "release" / name).exists()]
+    return f"of other sources: {left}" if left or run(at_once).status != 1 else None
+
+
 def all_tests():
     yield tested("the released program", runs_the_release)
+    yield tested("the help of pictures", helps_with_pictures)
     yield tested("a line that is changed, and back", lambda r: changed_and_back(r, line_changed, line_back))
     yield tested("a file that is added, and gone", lambda r: changed_and_back(r, file_added, file_taken_away))
     yield tested("what was built", runs_what_was_built)
@@ -241,6 +297,7 @@ def all_tests():
     yield tested("another folder", from_another_folder)
     yield tested("the limit on files", ignores_the_limit_on_files)
     yield tested("the comparison of a release", compares_the_release)
+    yield tested("the library in a release", takes_the_library_along)
 
 
 if __name__ == "__main__":

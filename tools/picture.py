@@ -4,9 +4,10 @@
     tools/picture.py [FILE] > picture.svg              what lies around the refused point
     tools/picture.py --timeline [FILE] > picture.svg   the whole trace, of at most 400 points
 
-Without FILE, or with `-`, standard input is read. Time goes down, in the order in which points are judged. The refused
-point is red, the earlier access amber, what makes it available blue; a dashed arrow is the link that is missing, and
-dashed boxes are the edits of the repair. The picture follows the reader's choice of light or dark.
+`./explain --picture FILE` and `./explain --timeline FILE` write the same beside an explanation. Without FILE, or with
+`-`, standard input is read. Time goes down, in the order in which points are judged. The refused point is red, the
+earlier access amber, what else the facts name blue; a dashed arrow is the link that is missing, and dashed boxes are
+the edits of the repair. The picture follows the reader's choice of light or dark.
 
 EXPLAIN names the program that explains; else it is ./explain at the top. The status is 0 where a picture was written,
 2 where the text isn't a trace, 5 where something can't be read or written, 6 where the command line isn't right, or
@@ -14,34 +15,39 @@ the whole trace has too many points.
 """
 
 import json
-import re
+import os
 import subprocess
 import sys
 from pathlib import Path
 
 sys.dont_write_bytecode = True
-sys.path.append(str(Path(__file__).resolve().parent.parent / "tests"))
 
-from command_line import NOT_A_TRACE, Arguments, read_all, run_tool, write_all
-from harness import EXPLAIN
-from pictured import Drawing
-from pictured_points import points_of
+from command_line import NOT_A_TRACE, NOT_UNDERSTOOD, Arguments, read_all, run_tool, write_all
+from pictured import MOST_POINTS, Drawing
 
-MOST_POINTS = 400
-NAMED = re.compile(r"\b(?:command|entry|signal|wait) ([0-9]+(?:\.[0-9]+\.[ws]?[0-9]+)?)\b")
+EXPLAIN = os.environ.get("EXPLAIN") or str(Path(__file__).resolve().parent.parent / "explain")
+
+
+class TooLong(ValueError):
+    """A trace that is drawn whole has too many points."""
 
 
 def explained(text):
     """What `explain --json` says of a trace."""
-    ran = subprocess.run([EXPLAIN, "--json"], input=text, capture_output=True, check=False)
+    ran = subprocess.run([EXPLAIN, "--json"], input=text, stdout=subprocess.PIPE, stderr=subprocess.PIPE, check=False)
     if ran.returncode not in (0, 1, 2):
-        raise OSError(f"{EXPLAIN}: status {ran.returncode}: {ran.stderr.decode(errors='replace').strip()}")
+        said = ran.stderr.decode(errors="replace").strip()
+        raise OSError(None, f"it ended with status {ran.returncode}: {said}", EXPLAIN)
     return json.loads(ran.stdout)
 
 
-def named_in(text):
-    """The points that a text names."""
-    return NAMED.findall(text or "")
+def pictured(text, said, is_whole):
+    """The picture of a trace of which this was said."""
+    drawing = Drawing(json.loads(text), said)
+    count = len(drawing.points)
+    if count > MOST_POINTS and (is_whole or drawing.at is None):
+        raise TooLong(f"the trace has {count} points; a whole one is drawn of at most {MOST_POINTS}")
+    return drawing.svg(is_whole)
 
 
 def answer():
@@ -57,11 +63,11 @@ def answer():
         what = f"expected {said['expected']}; found {said['found']}"
         print(f"picture.py: not a valid trace: {place}{what}", file=sys.stderr)
         return NOT_A_TRACE
-    points = points_of(json.loads(text))
-    if options.timeline and len(points) > MOST_POINTS:
-        parser.error(f"the trace has {len(points)} points; a whole one is drawn of at most {MOST_POINTS}")
-    drawing = Drawing(points, said, named_in(said.get("fact")), named_in(said.get("links")))
-    write_all(drawing.svg(whole=options.timeline or said["verdict"] != "refused"))
+    try:
+        write_all(pictured(text, said, options.timeline))
+    except TooLong as why:
+        print(f"picture.py: {why}", file=sys.stderr)
+        return NOT_UNDERSTOOD
     return 0
 
 

@@ -23,6 +23,11 @@ def masks(stages, accesses):
     return f"{named}:{ACCESSES.text(accesses) or hex(accesses)}" if accesses else named
 
 
+def layout(number):
+    """A layout by its name, where it has one."""
+    return LAYOUTS.text(number) or str(number)
+
+
 def element(row):
     """An element of a barrier, a set or an await."""
     words = f"{masks(*row[:2])} → {masks(*row[2:4])}"
@@ -31,7 +36,7 @@ def element(row):
     if len(row) == 10:
         words += f", image {row[6]}"
         if row[7] != row[8]:
-            words += f" {LAYOUTS.text(row[7])} → {LAYOUTS.text(row[8])}"
+            words += f" {layout(row[7])} → {layout(row[8])}"
     if len(row) > 4 and row[4] != row[5]:
         words += f", family {row[4]} → {row[5]}"
     return words

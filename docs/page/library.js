@@ -61,8 +61,8 @@ class Library {
   }
 }
 
-// What is said of a trace: the verdict, the lines of the explanation, those of its repair, where the point is, and
-// what the host reads in an order.
+// What is said of a trace: the verdict, the lines of the explanation, those of its repair, where the point is, all of
+// it as an object, and what the host reads in an order.
 function judged(library, text, order = 0, seed = 0n) {
   const trace = new TextEncoder().encode(text);
   const { status, text: said } = library.explain(trace);
@@ -79,6 +79,7 @@ function judged(library, text, order = 0, seed = 0n) {
     notes: note < 0 ? [] : lines.slice(note),
     line: object.line,
     column: object.column,
+    object,
     reads: [],
     stopped: null,
   };

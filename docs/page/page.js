@@ -6,6 +6,7 @@ const DELAY = 250; // milliseconds from the last change of the trace to its verd
 const EXAMPLES = JSON.parse(get("examples").textContent);
 const FIRST = "missing_dependency";
 let library = null;
+let said = null; // what explain says of the trace, as an object
 let waiting = 0;
 
 // An element with a text.
@@ -57,6 +58,19 @@ function showVerdict(found) {
   }
 }
 
+// Draws the trace: what lies around the refused point, or all of it.
+function draw() {
+  const isTrace = said !== null && said.verdict !== "no trace";
+  get("drawn").hidden = !isTrace;
+  if (!isTrace) return;
+  const picture = pictured(get("trace").value, said, get("whole").checked, get("frame").clientWidth || get("drawn").clientWidth);
+  get("part").hidden = said.verdict === "accepted";
+  get("undrawn").hidden = picture !== null;
+  get("undrawn").textContent = `A trace of more than ${MOST_POINTS} points isn't drawn whole.`;
+  get("frame").hidden = get("save").hidden = picture === null;
+  get("picture").src = get("save").href = `data:image/svg+xml;charset=utf-8,${encodeURIComponent(picture || "")}`;
+}
+
 function judge() {
   if (!library) return;
   const begun = performance.now();
@@ -70,6 +84,8 @@ function judge() {
     get("mend").hidden = found.repair.length === 0;
     get("run").hidden = found.status !== ZW.GOOD;
     number(found.line);
+    said = found.object;
+    draw();
     get("time").textContent = `${(performance.now() - begun).toFixed(1)} ms`;
     document.body.dataset.judged = document.body.dataset.opened;
   } catch (error) {
@@ -82,7 +98,7 @@ function fail(text) {
   get("verdict").className = "bad";
   get("verdict").textContent = text;
   for (const part of ["said", "repair", "reads"]) get(part).replaceChildren();
-  get("mend").hidden = get("run").hidden = true;
+  get("mend").hidden = get("run").hidden = get("drawn").hidden = true;
   number();
 }
 
@@ -163,5 +179,7 @@ get("order").addEventListener("change", () => {
   judge();
 });
 get("seed").addEventListener("input", changed);
+get("whole").addEventListener("change", draw);
+window.addEventListener("resize", draw);
 window.addEventListener("hashchange", openNamed);
 start();

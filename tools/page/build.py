@@ -53,11 +53,11 @@ def assembled(module):
     page = (PAGE / "index.html").read_text()
     listed = [dict(zip(("group", "name", "about", "trace"), each)) for each in examples()]
     packed = base64.b64encode(gzip.compress(module, 9, mtime=0)).decode()
-    style, library, script = ((PAGE / name).read_text() for name in ("page.css", "library.js", "page.js"))
+    style = (PAGE / "page.css").read_text()
+    scripts = {name: script_of((PAGE / name).read_text()) for name in ("library.js", "picture.js", "page.js")}
     parts = {
         '<link rel="stylesheet" href="page.css">': f"<style>\n{style}</style>",
-        '<script src="library.js"></script>': script_of(library),
-        '<script src="page.js"></script>': script_of(script),
+        **{f'<script src="{name}"></script>': script for name, script in scripts.items()},
         '<script type="application/json" id="examples">[]</script>': '<script type="application/json" id="examples">'
         + data_of(listed)
         + "</script>",
