@@ -12,3 +12,4 @@ mod SamePicks
 mod Writers
 mod LateSteps
 mod LateKept
+mod WritesStay

@@ -3,3 +3,4 @@ pub mod InPlace
 pub mod InPlaceRuns
 pub mod ThroughCaches
 pub mod LateRuns
+pub mod WritesStay
