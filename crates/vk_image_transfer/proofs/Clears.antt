@@ -63,7 +63,7 @@ module _ (i : ℕ) (color : List ℕ) (m : ImageInfo) (r : SubresourceRange) (le
     abbrev row : ℕ
     row = number % level_height m level
 
-    clear_is : piece_in (level_pieces i color m r level) number ≡ row_writes (level_width m level) (texel m.format) (λ x p. in_image i level layer x row p) (λ x p. Value (color_byte m color p))
+    pub clear_is : piece_in (level_pieces i color m r level) number ≡ row_writes (level_width m level) (texel m.format) (λ x p. in_image i level layer x row p) (λ x p. Value (color_byte m color p))
     clear_is = ap (λ (l : List (List ByteWrite)). piece_in l number) as_grid
         ∙ ap (λ (o : Option (List ByteWrite)). or_none o) (grid_piece r.layers (level_height m level) (level_width m level) (texel m.format) write number some_bytes here)
 

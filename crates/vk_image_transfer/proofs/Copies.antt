@@ -69,7 +69,7 @@ module _ (b i : ℕ) (m : ImageInfo) (g : BufferImageCopy) (number : ℕ) (wide 
   some_bytes : 0 < g.width * texel m.format
   some_bytes = mul-pos wide (texel_some m.format)
 
-  in_is : piece_in (copy_in_pieces b i m g) number ≡ row_writes g.width t (λ x p. image_texel i g z y x p) (λ x p. From (in_buffer b (buffer_texel g t z y x p)))
+  pub in_is : piece_in (copy_in_pieces b i m g) number ≡ row_writes g.width t (λ x p. image_texel i g z y x p) (λ x p. From (in_buffer b (buffer_texel g t z y x p)))
   in_is = ap (λ (o : Option (List ByteWrite)). or_none o)
       (grid_piece g.layers g.height g.width (texel m.format) (λ z y x k. byte_write (image_texel i g z y x k) (From (in_buffer b (buffer_texel g (texel m.format) z y x k)))) number some_bytes here)
 
@@ -98,7 +98,7 @@ module _ (b i : ℕ) (m : ImageInfo) (g : BufferImageCopy) (number : ℕ) (wide 
 
   -- ---- from the image to the buffer
 
-  out_is : piece_in (copy_out_pieces i b m g) number ≡ row_writes g.width t (λ x p. in_buffer b (buffer_texel g t z y x p)) (λ x p. From (image_texel i g z y x p))
+  pub out_is : piece_in (copy_out_pieces i b m g) number ≡ row_writes g.width t (λ x p. in_buffer b (buffer_texel g t z y x p)) (λ x p. From (image_texel i g z y x p))
   out_is = ap (λ (o : Option (List ByteWrite)). or_none o)
       (grid_piece g.layers g.height g.width (texel m.format) (λ z y x k. byte_write (in_buffer b (buffer_texel g (texel m.format) z y x k)) (From (image_texel i g z y x k))) number some_bytes here)
 
@@ -140,7 +140,7 @@ module _ (s d : ℕ) (from m : ImageInfo) (g : ImageCopy) (number : ℕ) (wide :
   abbrev pub destination_row : ℕ → ℕ → ℕ
   destination_row start x = image_row m start g.destination_level (g.destination_first_layer + number / g.height) g.destination_x (g.destination_y + number % g.height) x
 
-  image_is : piece_in (copy_image_pieces s d m g) number ≡ row_writes g.width (texel m.format) written_at (λ x p. From (read_at x p))
+  pub image_is : piece_in (copy_image_pieces s d m g) number ≡ row_writes g.width (texel m.format) written_at (λ x p. From (read_at x p))
   image_is = ap (λ (o : Option (List ByteWrite)). or_none o)
       (grid_piece g.layers g.height g.width (texel m.format)
       (λ z y x k. byte_write (in_image d g.destination_level (g.destination_first_layer + z) (g.destination_x + x) (g.destination_y + y) k) (From (in_image s g.source_level (g.source_first_layer + z) (g.source_x + x) (g.source_y + y) k)))

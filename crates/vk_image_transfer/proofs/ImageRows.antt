@@ -29,7 +29,7 @@ same_written old new w t place other value given_value same values written = rec
 }
 
 module _ (m : ImageInfo) (good : bad_image m ≡ false) (start level layer first y w : ℕ) (row : RowThere m level layer first y w) where
-  texel_there : (x p : ℕ) → x < w → p < texel m.format → IsThere m level layer (first + x) y p
+  pub texel_there : (x p : ℕ) → x < w → p < texel m.format → IsThere m level layer (first + x) y p
   texel_there x p lt low = record { level_there = row.level_there; layer_there = row.layer_there; x_there = omega (arith, row.columns); y_there = row.y_there; part_there = low }
 
   -- the row lies in the image's bytes

@@ -9,3 +9,5 @@ pub mod BufferRows
 pub mod Copies
 pub mod PieceRows
 pub mod AllPieces
+pub mod Walking
+pub mod WrittenPlaces

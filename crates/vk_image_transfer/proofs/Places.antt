@@ -60,7 +60,7 @@ image_apart law m good d (in_image i a l x y p) (in_image j c n u v q) k of_c of
 
 -- ---- of buffers
 
-buffer_parts : (n b j k : ℕ) → place_of (BufferOf n) (in_buffer b j) ≡ Some k → (j < n) × (j ≡ k)
+pub buffer_parts : (n b j k : ℕ) → place_of (BufferOf n) (in_buffer b j) ≡ Some k → (j < n) × (j ≡ k)
 buffer_parts n b j k e = go (nat_lt j n) refl e
   where
     go : (t : Bool) → nat_lt j n ≡ t → (if t then Some j else None) ≡ Some k → (j < n) × (j ≡ k)

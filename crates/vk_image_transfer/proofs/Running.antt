@@ -15,7 +15,7 @@ use Rattle.vk_model.proofs.World.BytePlaces.{byte_same, byte_itself}
 -- ---- what is found among what a function gives for numbers
 
 -- an item that is found is that of one of the numbers, and passes the test
-found_in : {X : Type 0} (test : X → Bool) (f : ℕ → X) (a n : ℕ) (m : X) → find test (map f (range_with_len a n)) ≡ Some m → (k : ℕ) × (a ≤ k) × (k < a + n) × (f k ≡ m) × (test (f k) ≡ true)
+pub found_in : {X : Type 0} (test : X → Bool) (f : ℕ → X) (a n : ℕ) (m : X) → find test (map f (range_with_len a n)) ≡ Some m → (k : ℕ) × (a ≤ k) × (k < a + n) × (f k ≡ m) × (test (f k) ≡ true)
 found_in test f a zero m e = absurd cc
 found_in {X} test f a (suc n) m e = go (test (f a)) refl (λ h. found_in test f (a + 1) n m h) e
   where
@@ -25,7 +25,7 @@ found_in {X} test f a (suc n) m e = go (test (f a)) refl (λ h. found_in test f 
     go false h rest e = let r = rest e in (r.0, omega (arith, r.1), omega (arith, r.2), r.3, r.4)
 
 -- where none is found, all fail it
-none_in : {X : Type 0} (test : X → Bool) (f : ℕ → X) (a n : ℕ) → find test (map f (range_with_len a n)) ≡ None → (k : ℕ) → a ≤ k → k < a + n → test (f k) ≡ false
+pub none_in : {X : Type 0} (test : X → Bool) (f : ℕ → X) (a n : ℕ) → find test (map f (range_with_len a n)) ≡ None → (k : ℕ) → a ≤ k → k < a + n → test (f k) ≡ false
 none_in test f a zero e k low high = absurd (omega arith)
 none_in {X} test f a (suc n) e k low high = go (test (f a)) refl (λ h less. none_in test f (a + 1) n h k less (omega arith)) e
   where

@@ -1,4 +1,5 @@
 pub mod Held
 pub mod Rows
 pub mod Pieces
+pub mod Stretches
 pub mod Inner

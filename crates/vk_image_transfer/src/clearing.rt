@@ -1,7 +1,8 @@
-ghost use Rattle.std.specs.Prelude.{◌≡◌, ◌+◌, ◌*◌, ◌/◌, ◌%◌, ◌<◌, ◌≤◌, ℕ, length};
-ghost use Rattle.vk_image_transfer.specs.Held.{one_held, image_at, bytes_held};
+ghost use Rattle.std.specs.Prelude.{◌≡◌, ◌+◌, ◌*◌, ◌/◌, ◌%◌, ◌^◌, ◌<◌, ◌≤◌, ℕ, length};
+ghost use Rattle.vk_image_transfer.specs.Held.{ImageOf, one_held, image_at, bytes_held};
 ghost use Rattle.vk_image_transfer.specs.Pieces.{piece_in};
 ghost use Rattle.vk_image_transfer.specs.Rows.{AreWritten, BoxFits, image_row, level_box};
+ghost use Rattle.vk_image_transfer.specs.Stretches.{WritesAt, is_among};
 ghost use Rattle.vk_model.specs.Run.Pieces.{level_pieces};
 ghost use Rattle.vk_model.specs.Trace.Image as shape;
 ghost use Rattle.vk_model.specs.World.ByteWrites.{color_byte};
@@ -10,6 +11,7 @@ ghost use Rattle.vk_transfer.specs.Ran.{HaveRun};
 use crate::colors::color_bytes;
 use crate::moving::fill_texels;
 use crate::rows::{RowPlace, image_line};
+use crate::stretches::RowStretches;
 use vk_heap::Region;
 use vk_image_tiles::{Shape, level_height, level_width, texel_size};
 use vk_model::{SubresourceRange, texels_apart};
@@ -33,6 +35,22 @@ impl LevelClear {
     {
         let rows = level_height(&image.image(), self.level);
         u64::from(self.range.layers) * u64::from(rows)
+    }
+
+    /// The bytes that the piece of this number writes, where the image lies from `start` on.
+    pub fn stretches(&self, number: u64, image: &Shape, start: u64) -> RowStretches
+        requires level { BoxFits image.now (level_box image.now self.now.range self.now.level) }
+        requires end { start + shape.image_size image.now image.now.tiling < 2 ^ 64 }
+        requires piece { number < self.now.range.layers * shape.level_height image.now self.now.level }
+        ensures { (i : ℕ) → WritesAt (is_among result) (piece_in (level_pieces i self.now.color image.now self.now.range self.now.level) number) i (ImageOf image.now) start }
+    {
+        texels_apart();
+        let info = image.image();
+        let place = RowPlace::new(number, self.range.layers, level_height(&info, self.level));
+        let layer = self.range.first_layer + place.layer;
+        let texels = image_line(image, start, self.level, layer, 0, place.row);
+        let texel = u64::from(texel_size(info.format));
+        RowStretches::new(texels, level_width(&info, self.level), texel)
     }
 
     /// Runs the piece of this number on the region in which the image lies from `start` on.

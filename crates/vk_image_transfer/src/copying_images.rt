@@ -1,8 +1,9 @@
-ghost use Rattle.std.specs.Prelude.{◌≡◌, ◌+◌, ◌*◌, ◌/◌, ◌%◌, ◌<◌, ◌≤◌, ℕ, false, length, slice_index};
+ghost use Rattle.std.specs.Prelude.{◌≡◌, ◌+◌, ◌*◌, ◌/◌, ◌%◌, ◌^◌, ◌<◌, ◌≤◌, ℕ, false, length, slice_index};
 ghost use Rattle.vk_image_transfer.specs.Inner.Lines.{line_place, line_texel, line_first};
-ghost use Rattle.vk_image_transfer.specs.Held.{one_held, two_held, image_at, bytes_held};
+ghost use Rattle.vk_image_transfer.specs.Held.{ImageOf, one_held, two_held, image_at, bytes_held};
 ghost use Rattle.vk_image_transfer.specs.Pieces.{piece_in, copy_image_pieces};
 ghost use Rattle.vk_image_transfer.specs.Rows.{AreWritten, BoxFits, image_row};
+ghost use Rattle.vk_image_transfer.specs.Stretches.{WritesAt, is_among};
 ghost use Rattle.vk_model.specs.declared.resource.ImageInfo.{ImageInfo};
 ghost use Rattle.vk_model.specs.Trace.Image as shape;
 ghost use Rattle.vk_model.specs.World.Areas.{source_box, destination_box, boxes_meet};
@@ -11,6 +12,7 @@ ghost use Rattle.vk_transfer.specs.Ran.{AreApart, HaveRun};
 use crate::lines::Line;
 use crate::moving::{copy_texels, copy_texels_within};
 use crate::rows::{RowPlace, image_line, row_count};
+use crate::stretches::RowStretches;
 use vk_heap::Region;
 use vk_image_tiles::{Shape, level_height, level_width, texel_size};
 use vk_model::{ImageCopy, texels_apart, texels_inside};
@@ -29,6 +31,23 @@ impl CopyImage {
     {
         let region = &self.region;
         row_count(region.width, region.height, region.layers)
+    }
+
+    /// The bytes that the piece of this number writes, where the destination lies from `start` on.
+    pub fn stretches(&self, number: u64, to: &Shape, start: u64) -> RowStretches
+        requires destination_region { BoxFits to.now (destination_box self.now.region) }
+        requires piece { number < self.now.region.layers * self.now.region.height }
+        requires columns { 0 < self.now.region.width }
+        requires end { start + shape.image_size to.now to.now.tiling < 2 ^ 64 }
+        ensures { (s d : ℕ) → WritesAt (is_among result) (piece_in (copy_image_pieces s d to.now self.now.region) number) d (ImageOf to.now) start }
+    {
+        texels_apart();
+        let info = to.image();
+        let place = RowPlace::new(number, self.region.layers, self.region.height);
+        let line = self.destination_line(place, to, start);
+        let _width = level_width(&info, self.region.destination_level);
+        let texel = u64::from(texel_size(info.format));
+        RowStretches::new(line, self.region.width, texel)
     }
 
     /// Runs the piece of this number between two regions of memory: the source lies in `source`

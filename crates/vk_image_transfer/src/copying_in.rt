@@ -1,7 +1,8 @@
-ghost use Rattle.std.specs.Prelude.{◌≡◌, ◌+◌, ◌-◌, ◌*◌, ◌/◌, ◌%◌, ◌<◌, ◌≤◌, ℕ, length, slice_index};
-ghost use Rattle.vk_image_transfer.specs.Held.{two_held, buffer_at, image_at, bytes_held};
+ghost use Rattle.std.specs.Prelude.{◌≡◌, ◌+◌, ◌-◌, ◌*◌, ◌/◌, ◌%◌, ◌^◌, ◌<◌, ◌≤◌, ℕ, length, slice_index};
+ghost use Rattle.vk_image_transfer.specs.Held.{ImageOf, two_held, buffer_at, image_at, bytes_held};
 ghost use Rattle.vk_image_transfer.specs.Pieces.{piece_in, copy_in_pieces};
 ghost use Rattle.vk_image_transfer.specs.Rows.{AreWritten, BoxFits, LiesApart, RegionFits, image_row, buffer_row};
+ghost use Rattle.vk_image_transfer.specs.Stretches.{WritesAt, is_among};
 ghost use Rattle.vk_model.specs.declared.resource.ImageInfo.{ImageInfo};
 ghost use Rattle.vk_model.specs.Trace.Image as shape;
 ghost use Rattle.vk_model.specs.World.Areas.{region_box};
@@ -9,6 +10,7 @@ ghost use Rattle.vk_transfer.specs.Ran.{AreApart, HaveRun};
 
 use crate::moving::{copy_texels, copy_texels_within};
 use crate::rows::{RowPlace, buffer_line, region_line, row_count};
+use crate::stretches::RowStretches;
 use vk_heap::Region;
 use vk_image_tiles::{Shape, level_width, texel_size};
 use vk_model::{BufferImageCopy, texels_apart, texels_inside};
@@ -28,6 +30,23 @@ impl CopyIn {
     {
         let region = &self.region;
         row_count(region.width, region.height, region.layers)
+    }
+
+    /// The bytes that the piece of this number writes, where the image lies from `start` on.
+    pub fn stretches(&self, number: u64, image: &Shape, start: u64) -> RowStretches
+        requires region { BoxFits image.now (region_box self.now.region) }
+        requires piece { number < self.now.region.layers * self.now.region.height }
+        requires columns { 0 < self.now.region.width }
+        requires end { start + shape.image_size image.now image.now.tiling < 2 ^ 64 }
+        ensures { (b i : ℕ) → WritesAt (is_among result) (piece_in (copy_in_pieces b i image.now self.now.region) number) i (ImageOf image.now) start }
+    {
+        texels_apart();
+        let info = image.image();
+        let place = RowPlace::new(number, self.region.layers, self.region.height);
+        let line = region_line(&self.region, place, image, start);
+        let _width = level_width(&info, self.region.level);
+        let texel = u64::from(texel_size(info.format));
+        RowStretches::new(line, self.region.width, texel)
     }
 
     /// Runs the piece of this number between two regions of memory: the buffer lies in `source`

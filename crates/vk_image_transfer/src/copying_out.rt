@@ -1,7 +1,8 @@
 ghost use Rattle.std.specs.Prelude.{◌≡◌, ◌+◌, ◌-◌, ◌*◌, ◌/◌, ◌%◌, ◌<◌, ◌≤◌, ℕ, length, slice_index};
-ghost use Rattle.vk_image_transfer.specs.Held.{two_held, buffer_at, image_at, bytes_held};
+ghost use Rattle.vk_image_transfer.specs.Held.{BufferOf, two_held, buffer_at, image_at, bytes_held};
 ghost use Rattle.vk_image_transfer.specs.Pieces.{piece_in, copy_out_pieces};
 ghost use Rattle.vk_image_transfer.specs.Rows.{AreWritten, BoxFits, LiesApart, RegionFits, image_row, buffer_row};
+ghost use Rattle.vk_image_transfer.specs.Stretches.{WritesAt, is_among};
 ghost use Rattle.vk_model.specs.declared.resource.ImageInfo.{ImageInfo};
 ghost use Rattle.vk_model.specs.Trace.Image as shape;
 ghost use Rattle.vk_model.specs.World.Areas.{region_box};
@@ -9,6 +10,7 @@ ghost use Rattle.vk_transfer.specs.Ran.{AreApart, HaveRun};
 
 use crate::moving::{copy_texels, copy_texels_within};
 use crate::rows::{RowPlace, buffer_line, region_line, row_count};
+use crate::stretches::RowStretches;
 use vk_heap::Region;
 use vk_image_tiles::{Shape, level_width, texel_size};
 use vk_model::{BufferImageCopy, texels_inside};
@@ -28,6 +30,22 @@ impl CopyOut {
     {
         let region = &self.region;
         row_count(region.width, region.height, region.layers)
+    }
+
+    /// The bytes that the piece of this number writes, where the buffer lies from `start` on.
+    pub fn stretches(&self, number: u64, image: &Shape, start: u64) -> RowStretches
+        requires region { BoxFits image.now (region_box self.now.region) }
+        requires piece { number < self.now.region.layers * self.now.region.height }
+        requires columns { 0 < self.now.region.width }
+        requires end { RegionFits self.now.region (shape.texel image.now.format) (18446744073709551615 - start) }
+        ensures { (i b n : ℕ) → RegionFits self.now.region (shape.texel image.now.format) n → WritesAt (is_among result) (piece_in (copy_out_pieces i b image.now self.now.region) number) b (BufferOf n) start }
+    {
+        let info = image.image();
+        let texel = u64::from(texel_size(info.format));
+        let place = RowPlace::new(number, self.region.layers, self.region.height);
+        let line = buffer_line(&self.region, texel, start, place);
+        let _width = level_width(&info, self.region.level);
+        RowStretches::new(line, self.region.width, texel)
     }
 
     /// Runs the piece of this number between two regions of memory: the image lies in `source`

@@ -11,6 +11,7 @@ mod moving;
 mod ranges;
 mod regions;
 mod rows;
+mod stretches;
 
 pub use clearing::LevelClear;
 pub use copying_images::CopyImage;
@@ -18,3 +19,4 @@ pub use copying_in::CopyIn;
 pub use copying_out::CopyOut;
 pub use ranges::{Clear, ClearRow};
 pub use regions::{ImageCopyRow, ImageCopyRows, RegionRow, RegionRows};
+pub use stretches::RowStretches;

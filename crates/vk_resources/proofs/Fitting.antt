@@ -154,9 +154,11 @@ module _ (s : Held) (y : Cmd) (k : ℕ) (ready : PieceReady s y k) where
           let whole = fill_whole ready.past s ready.matches.live b o n w p here (subst (λ (c : Cmd). FitsCommand ready.past c) is ready.fits) in
           rw of (whole.0, whole.1, fill_below ready.past s ready.matches.live b o n w p k here (subst (λ (c : Cmd). k < length (pieces ready.past c)) is ready.below))
 
+      pub fill_is : (past : Past) (ms : List ByteWrite) → MatchesLive past s → slice_get (pieces past y) k ≡ Some ms → fill_piece b f k ≡ ms
+      fill_is past ms m at = ap (λ (g : Fill). fill_piece b g k) of ∙ fill_named past s m b o n w p k ms here (sym (ap (λ (c : Cmd). slice_get (pieces past c) k) is) ∙ at)
+
       pub fill_made : (new : Held) → HasRun s new (fill_piece b f k) → (past : Past) (ms : List ByteWrite) → MatchesLive past s → slice_get (pieces past y) k ≡ Some ms → HasRun s new ms
-      fill_made new ran past ms m at =
-          subst (λ (xs : List ByteWrite). HasRun s new xs) (ap (λ (g : Fill). fill_piece b g k) of ∙ fill_named past s m b o n w p k ms here (sym (ap (λ (c : Cmd). slice_get (pieces past c) k) is) ∙ at)) ran
+      fill_made new ran past ms m at = subst (λ (xs : List ByteWrite). HasRun s new xs) (fill_is past ms m at) ran
 
   module _ (b o : ℕ) (bytes : List ℕ) (is : y ≡ cmd.Update b o bytes) where
     pub update_there : IsSome (flat s b)
@@ -169,9 +171,11 @@ module _ (s : Held) (y : Cmd) (k : ℕ) (ready : PieceReady s y k) where
         update_below ready.past s ready.matches.live b o bytes u at same k (subst (λ (c : Cmd). k < length (pieces ready.past c)) is ready.below),
       )
 
+      pub update_is : (past : Past) (ms : List ByteWrite) → MatchesLive past s → slice_get (pieces past y) k ≡ Some ms → update_piece b u k ≡ ms
+      update_is past ms m there = update_named past s m b o bytes u at same k ms (sym (ap (λ (c : Cmd). slice_get (pieces past c) k) is) ∙ there)
+
       pub update_made : (new : Held) → HasRun s new (update_piece b u k) → (past : Past) (ms : List ByteWrite) → MatchesLive past s → slice_get (pieces past y) k ≡ Some ms → HasRun s new ms
-      update_made new ran past ms m there =
-          subst (λ (xs : List ByteWrite). HasRun s new xs) (update_named past s m b o bytes u at same k ms (sym (ap (λ (c : Cmd). slice_get (pieces past c) k) is) ∙ there)) ran
+      update_made new ran past ms m there = subst (λ (xs : List ByteWrite). HasRun s new xs) (update_is past ms m there) ran
 
   module _ (a b : ℕ) (gs : List BufferCopy) (is : y ≡ cmd.Copy a b gs) where
     pub source_there : IsSome (flat s a)
@@ -185,10 +189,11 @@ module _ (s : Held) (y : Cmd) (k : ℕ) (ready : PieceReady s y k) where
         subst (λ (rs : List BufferCopy). CopyReady p q rs k) (sym same)
         (copy_ready ready.past s ready.matches.live a b gs p q k from to (subst (λ (c : Cmd). FitsCommand ready.past c) is ready.fits) (subst (λ (c : Cmd). k < length (pieces ready.past c)) is ready.below))
 
+    pub copy_is : (regions : List BufferCopy) → regions ≡ gs → (past : Past) (ms : List ByteWrite) → slice_get (pieces past y) k ≡ Some ms → copy_piece a b regions k ≡ ms
+    copy_is regions same past ms there = ap (λ (rs : List BufferCopy). copy_piece a b rs k) same ∙ copy_named a b gs past k ms (sym (ap (λ (c : Cmd). slice_get (pieces past c) k) is) ∙ there)
+
     pub copy_made : (new : Held) (regions : List BufferCopy) → regions ≡ gs → HasRun s new (copy_piece a b regions k) → (past : Past) (ms : List ByteWrite) → slice_get (pieces past y) k ≡ Some ms → HasRun s new ms
-    copy_made new regions same ran past ms there =
-        subst (λ (xs : List ByteWrite). HasRun s new xs)
-        (ap (λ (rs : List BufferCopy). copy_piece a b rs k) same ∙ copy_named a b gs past k ms (sym (ap (λ (c : Cmd). slice_get (pieces past c) k) is) ∙ there)) ran
+    copy_made new regions same ran past ms there = subst (λ (xs : List ByteWrite). HasRun s new xs) (copy_is regions same past ms there) ran
 
 -- the regions of a copy are those that it was made ready with
 pub regions_of : (y : Cmd) (o : Regions) (a b : ℕ) (gs regions : List BufferCopy) → AreCopied y o → y ≡ cmd.Copy a b gs → o ≡ OfBuffers regions → regions ≡ gs

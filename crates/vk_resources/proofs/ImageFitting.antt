@@ -28,7 +28,9 @@ use Rattle.vk_image_transfer.proofs.AllPieces.{in_count, out_count, image_count,
 use Rattle.vk_image_transfer.specs.Pieces.{RangeFits, range_rows, copy_rows, piece_in, all_cleared, all_copied_in, all_copied_out, all_copied, copy_image_pieces}
 use Rattle.vk_image_transfer.specs.Rows.{BoxFits}
 use Rattle.vk_image_transfer.specs.declared.regions.ImageCopyRow.{ImageCopyRow}
+use Rattle.vk_backing.proofs.Grown.{some_there}
 use Rattle.vk_resources.specs.declared.resources.Placed.{Placed}
+use Rattle.vk_resources.specs.declared.stretches.Written.{Written}
 use Rattle.vk_resources.specs.declared.work.Regions.{Regions}
 use Rattle.vk_resources.specs.declared.work.Regions.TheVariants.{OfBuffers, OfBoth, OfImages}
 use Rattle.vk_resources.specs.Held.{Held, IsConsistent, shape_of, flat, byte_at}
@@ -36,7 +38,8 @@ use Rattle.vk_resources.specs.Matches.{MatchesLive}
 use Rattle.vk_resources.specs.Fits.{FitsClear, FitsRegions, FitsImages, FitsCommand, NamesLive, KeepsApart}
 use Rattle.vk_resources.specs.Done.{PieceReady}
 use Rattle.vk_resources.specs.Rest.{KeepsRest, is_written}
-use Rattle.vk_resources.specs.Inner.Images.{HasPicture, ClearReady, RegionsReady, ImageRowReady, HasRunPiece}
+use Rattle.vk_resources.specs.Stretches.{HasWrites, HasPieceWrites}
+use Rattle.vk_resources.specs.Inner.Images.{HasPicture, ClearReady, RegionsReady, MayCopyIn, ImageRowReady, HasRunPiece}
 use Rattle.vk_resources.specs.Inner.Steps.{HasRun}
 use Rattle.vk_resources.specs.Inner.Works.{AreCopied, regions_count}
 use Rattle.vk_resources.proofs.Fitting.{live_made, same_size, named_there, copies_long}
@@ -159,20 +162,28 @@ module _ (s : Held) (y : Cmd) (k : ℕ) (ready : PieceReady s y k) where
   below_as : (c : Cmd) → y ≡ c → k < length (pieces ready.past c)
   below_as c is = subst (λ (c : Cmd). k < length (pieces ready.past c)) is ready.below
 
+  -- a piece is the same in any past
+  piece_same : (i : ℕ) (has : HasPicture s i) (writes : ImageInfo → List (List ByteWrite)) → ((past : Past) → image past i ≡ Some has.image → pieces past y ≡ writes has.image)
+      → (past : Past) (ms : List ByteWrite) → MatchesLive past s → slice_get (pieces past y) k ≡ Some ms → piece_in (writes has.image) k ≡ ms
+  piece_same i has writes of_past past ms m at = piece_named (writes has.image) k ms (ap (λ (ps : List (List ByteWrite)). slice_get ps k) (sym (of_past past (made_image past s m i has.image has.is.shaped))) ∙ at)
+
   -- a piece that has been run is that of any past
   piece_made : (new : Held) (i : ℕ) (has : HasPicture s i) (writes : ImageInfo → List (List ByteWrite)) → ((past : Past) → image past i ≡ Some has.image → pieces past y ≡ writes has.image)
       → ((n : ImageInfo) → shape_of s i ≡ Some n → HasRun s new (piece_in (writes n) k)) → HasRunPiece s new y k
   piece_made new i has writes of_past run =
       let ran = run has.image has.is.shaped in
+      let same = piece_same i has writes of_past in
       record {
         ran = λ past ms m fits at. subst (λ (xs : List ByteWrite). HaveRun xs (byte_at s) (byte_at new)) (same past ms m.live at) ran.1;
         keeps = ran.0;
         cache = ran.2;
         rest = λ past ms m fits at. subst (λ (xs : List ByteWrite). KeepsRest s new (is_written xs)) (same past ms m.live at) ran.3;
       }
-    where
-      same : (past : Past) (ms : List ByteWrite) → MatchesLive past s → slice_get (pieces past y) k ≡ Some ms → piece_in (writes has.image) k ≡ ms
-      same past ms m at = piece_named (writes has.image) k ms (ap (λ (ps : List (List ByteWrite)). slice_get ps k) (sym (of_past past (made_image past s m i has.image has.is.shaped))) ∙ at)
+
+  -- so are the bytes of one
+  piece_found : (w : Written) (i : ℕ) (has : HasPicture s i) (writes : ImageInfo → List (List ByteWrite)) → ((past : Past) → image past i ≡ Some has.image → pieces past y ≡ writes has.image)
+      → ((n : ImageInfo) → shape_of s i ≡ Some n → HasWrites s (piece_in (writes n) k) w) → HasPieceWrites s y k w
+  piece_found w i has writes of_past found past ms m fits at = subst (λ (xs : List ByteWrite). HasWrites s xs w) (piece_same i has writes of_past past ms m.live at) (found has.image has.is.shaped)
 
   module _ (i : ℕ) (l : Layout) (color : List ℕ) (rs ranges : List SubresourceRange) (is : y ≡ cmd.Clear i l color rs) (same : ranges ≡ rs) where
     cleared : HasPicture s i
@@ -186,9 +197,14 @@ module _ (s : Held) (y : Cmd) (k : ℕ) (ready : PieceReady s y k) where
         subst (λ (xs : List SubresourceRange). ClearReady s i xs k) (sym same)
         (record { to = cleared; ranges = fits.0; piece = subst (λ (n : ℕ). k < n) count (below_as (cmd.Clear i l color rs) is) })
 
+    clear_pieces_of : (past : Past) → image past i ≡ Some cleared.image → pieces past y ≡ all_cleared i color cleared.image ranges
+    clear_pieces_of past made = ap (pieces past) is ∙ cleared_pieces past i l color rs cleared.image made ∙ ap (λ (xs : List SubresourceRange). all_cleared i color cleared.image xs) (sym same)
+
     pub clear_made : (new : Held) → ((n : ImageInfo) → shape_of s i ≡ Some n → HasRun s new (piece_in (all_cleared i color n ranges) k)) → HasRunPiece s new y k
-    clear_made new run = piece_made new i cleared (λ n. all_cleared i color n ranges)
-        (λ past made. ap (pieces past) is ∙ cleared_pieces past i l color rs cleared.image made ∙ ap (λ (xs : List SubresourceRange). all_cleared i color cleared.image xs) (sym same)) run
+    clear_made new run = piece_made new i cleared (λ n. all_cleared i color n ranges) clear_pieces_of run
+
+    pub clear_found : (w : Written) → ((n : ImageInfo) → shape_of s i ≡ Some n → HasWrites s (piece_in (all_cleared i color n ranges) k) w) → HasPieceWrites s y k w
+    clear_found w found = piece_found w i cleared (λ n. all_cleared i color n ranges) clear_pieces_of found
 
   -- ---- a copy between a buffer and an image
 
@@ -212,9 +228,18 @@ module _ (s : Held) (y : Cmd) (k : ℕ) (ready : PieceReady s y k) where
         let count : length (pieces ready.past (cmd.CopyIn b i l gs)) ≡ sum_by row_count gs = ap length (in_pieces ready.past b i l gs copied_to.image (made_image ready.past s ready.matches.live i copied_to.image copied_to.is.shaped)) ∙ sym (in_count b i copied_to.image gs) in
         regions_ready b i q gs regions copied_to at (fits_as (cmd.CopyIn b i l gs) is) (subst (λ (n : ℕ). k < n) count (below_as (cmd.CopyIn b i l gs) is)) same
 
+    -- for the buffer, whatever its size
+    pub in_may : MayCopyIn s i regions k
+    in_may = let q = some_there (flat s b) in_there in (q.0.size, in_ready q.0 q.1)
+
+    in_pieces_of : (past : Past) → image past i ≡ Some copied_to.image → pieces past y ≡ all_copied_in b i copied_to.image regions
+    in_pieces_of past made = ap (pieces past) is ∙ in_pieces past b i l gs copied_to.image made ∙ ap (λ (xs : List BufferImageCopy). all_copied_in b i copied_to.image xs) (sym same)
+
     pub in_made : (new : Held) → ((n : ImageInfo) → shape_of s i ≡ Some n → HasRun s new (piece_in (all_copied_in b i n regions) k)) → HasRunPiece s new y k
-    in_made new run = piece_made new i copied_to (λ n. all_copied_in b i n regions)
-        (λ past made. ap (pieces past) is ∙ in_pieces past b i l gs copied_to.image made ∙ ap (λ (xs : List BufferImageCopy). all_copied_in b i copied_to.image xs) (sym same)) run
+    in_made new run = piece_made new i copied_to (λ n. all_copied_in b i n regions) in_pieces_of run
+
+    pub in_found : (w : Written) → ((n : ImageInfo) → shape_of s i ≡ Some n → HasWrites s (piece_in (all_copied_in b i n regions) k) w) → HasPieceWrites s y k w
+    in_found w found = piece_found w i copied_to (λ n. all_copied_in b i n regions) in_pieces_of found
 
   module _ (i b : ℕ) (l : Layout) (gs regions : List BufferImageCopy) (is : y ≡ cmd.CopyOut i l b gs) (same : regions ≡ gs) where
     copied_from : HasPicture s i
@@ -228,9 +253,14 @@ module _ (s : Held) (y : Cmd) (k : ℕ) (ready : PieceReady s y k) where
         let count : length (pieces ready.past (cmd.CopyOut i l b gs)) ≡ sum_by row_count gs = ap length (out_pieces ready.past i b l gs copied_from.image (made_image ready.past s ready.matches.live i copied_from.image copied_from.is.shaped)) ∙ sym (out_count i b copied_from.image gs) in
         regions_ready b i q gs regions copied_from at (fits_as (cmd.CopyOut i l b gs) is) (subst (λ (n : ℕ). k < n) count (below_as (cmd.CopyOut i l b gs) is)) same
 
+    out_pieces_of : (past : Past) → image past i ≡ Some copied_from.image → pieces past y ≡ all_copied_out i b copied_from.image regions
+    out_pieces_of past made = ap (pieces past) is ∙ out_pieces past i b l gs copied_from.image made ∙ ap (λ (xs : List BufferImageCopy). all_copied_out i b copied_from.image xs) (sym same)
+
     pub out_made : (new : Held) → ((n : ImageInfo) → shape_of s i ≡ Some n → HasRun s new (piece_in (all_copied_out i b n regions) k)) → HasRunPiece s new y k
-    out_made new run = piece_made new i copied_from (λ n. all_copied_out i b n regions)
-        (λ past made. ap (pieces past) is ∙ out_pieces past i b l gs copied_from.image made ∙ ap (λ (xs : List BufferImageCopy). all_copied_out i b copied_from.image xs) (sym same)) run
+    out_made new run = piece_made new i copied_from (λ n. all_copied_out i b n regions) out_pieces_of run
+
+    pub out_found : (w : Written) → ((n : ImageInfo) → shape_of s i ≡ Some n → HasWrites s (piece_in (all_copied_out i b n regions) k) w) → HasPieceWrites s y k w
+    out_found w found = piece_found w i copied_from (λ n. all_copied_out i b n regions) out_pieces_of found
 
   -- ---- a copy between images
 
@@ -260,8 +290,15 @@ module _ (s : Held) (y : Cmd) (k : ℕ) (ready : PieceReady s y k) where
           columns = columns;
         }
 
+    images_pieces_of : (past : Past) → image past b ≡ Some written.image → pieces past y ≡ all_copied a b written.image regions
+    images_pieces_of past made = ap (pieces past) is ∙ image_pieces past a b l t gs written.image made ∙ ap (λ (xs : List ImageCopy). all_copied a b written.image xs) (sym same)
+
     pub images_made : (new : Held) (found : ImageCopyRow) → ((n : ImageInfo) → piece_in (all_copied a b n regions) k ≡ piece_in (copy_image_pieces a b n found.region) found.number)
         → ((n : ImageInfo) → shape_of s b ≡ Some n → HasRun s new (piece_in (copy_image_pieces a b n found.region) found.number)) → HasRunPiece s new y k
-    images_made new found piece run = piece_made new b written (λ n. all_copied a b n regions)
-        (λ past made. ap (pieces past) is ∙ image_pieces past a b l t gs written.image made ∙ ap (λ (xs : List ImageCopy). all_copied a b written.image xs) (sym same))
+    images_made new found piece run = piece_made new b written (λ n. all_copied a b n regions) images_pieces_of
         (λ n shaped. subst (λ (ms : List ByteWrite). HasRun s new ms) (sym (piece n)) (run n shaped))
+
+    pub images_found : (w : Written) (found : ImageCopyRow) → ((n : ImageInfo) → piece_in (all_copied a b n regions) k ≡ piece_in (copy_image_pieces a b n found.region) found.number)
+        → ((n : ImageInfo) → shape_of s b ≡ Some n → HasWrites s (piece_in (copy_image_pieces a b n found.region) found.number) w) → HasPieceWrites s y k w
+    images_found w found piece writes = piece_found w b written (λ n. all_copied a b n regions) images_pieces_of
+        (λ n shaped. subst (λ (ms : List ByteWrite). HasWrites s ms w) (sym (piece n)) (writes n shaped))

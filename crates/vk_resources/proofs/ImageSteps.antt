@@ -56,14 +56,19 @@ module _ (s : Held) (consistent : IsConsistent s) where
 
   -- ---- a copy between a buffer and an image
 
+  -- a region that is found lies in both
+  pub region_found : (size i : ℕ) (m : ImageInfo) → shape_of s i ≡ Some m → (gs : List BufferImageCopy) (number : ℕ) → RegionsReady s size i gs number → (g : BufferImageCopy) → Contains gs g → BoxFits m (region_box g) × RegionFits g (texel m.format) size
+  region_found size i m shaped gs number ready g among =
+      subst (λ (n : ImageInfo). BoxFits n (region_box g) × RegionFits g (texel n.format) size) (one_shape s i ready.with.image m ready.with.is.shaped shaped)
+      (All-contains (λ g. BoxFits ready.with.image (region_box g) × RegionFits g (texel ready.with.image.format) size) gs g ready.fits among)
+
   module _ (q : Placed) (buffer : IsPlaced s q) (i : ℕ) (m : ImageInfo) (p : Placed) (shaped : shape_of s i ≡ Some m) (here : placed s i ≡ Some p) (gs : List BufferImageCopy) (number : ℕ) (ready : RegionsReady s q.size i gs number)
       (found : RegionRow) (among : Contains gs found.region) (row : found.number < found.region.layers * found.region.height) (columns : 0 < found.region.width) where
     is : IsPicture s i m p
     is = (picture_of i ready.with m p shaped here).1
 
     fits : BoxFits m (region_box found.region) × RegionFits found.region (texel m.format) q.size
-    fits = subst (λ (n : ImageInfo). BoxFits n (region_box found.region) × RegionFits found.region (texel n.format) q.size) (picture_of i ready.with m p shaped here).0
-        (All-contains (λ g. BoxFits ready.with.image (region_box g) × RegionFits g (texel ready.with.image.format) q.size) gs found.region ready.fits among)
+    fits = region_found q.size i m shaped gs number ready found.region among
 
     one_row : IsRow found.region found.number m
     one_row = record { region = fits.0; piece = row; columns = columns }
@@ -115,6 +120,10 @@ module _ (s : Held) (consistent : IsConsistent s) where
       )
 
   -- ---- a copy between images
+
+  -- its region lies in the image that is written
+  pub destination_found : (a b : ℕ) (g : ImageCopy) (k : ℕ) → ImageRowReady s a b g k → (n : ImageInfo) → shape_of s b ≡ Some n → BoxFits n (destination_box g)
+  destination_found a b g k ready n shaped = subst (λ (x : ImageInfo). BoxFits x (destination_box g)) (one_shape s b ready.pictures.to.image n ready.pictures.to.is.shaped shaped) ready.fits.1
 
   module _ (a b : ℕ) (g : ImageCopy) (k : ℕ) (ready : ImageRowReady s a b g k) (m n : ImageInfo) (p q : Placed) (shaped : shape_of s a ≡ Some m) (shaped_to : shape_of s b ≡ Some n) (here : placed s a ≡ Some p) (here_to : placed s b ≡ Some q) where
     from : (ready.pictures.from.image ≡ m) × IsPicture s a m p

@@ -7,6 +7,7 @@ mod Splicing
 mod CachedSteps
 mod Commands
 mod WrittenRows
+mod WrittenBytes
 mod ImageSteps
 pub mod Matching
 pub mod Fitting

@@ -7,4 +7,5 @@ pub mod Counted
 pub mod Passes
 pub mod PassSteps
 pub mod Done
+pub mod Stretches
 pub mod Inner

@@ -12,7 +12,7 @@ use vk_image_transfer::{Clear, CopyImage, ImageCopyRow, RegionRows};
 use vk_model::{Cmd, texels_apart, texels_inside};
 
 /// The shape of an image that is there.
-fn shape_at(shapes: &BTreeMap<u32, Shape>, id: u32) -> &Shape
+pub(crate) fn shape_at(shapes: &BTreeMap<u32, Shape>, id: u32) -> &Shape
     requires { IsSome (shape_in shapes.now.entries id) }
     ensures { shape_in shapes.now.entries id ≡ Some result.now }
 {
@@ -30,7 +30,7 @@ impl Resources {
     ghost use Rattle.vk_resources.specs.Inner.Images.{HasPicture, ClearReady, RegionsReady, ImageRowReady, HasRunPiece};
 
     /// Where an image lies that is there.
-    fn picture(&self, id: u32) -> Placed
+    pub(crate) fn picture(&self, id: u32) -> Placed
         requires { HasPicture self.now id }
         ensures { placed self.now id ≡ Some result }
     {

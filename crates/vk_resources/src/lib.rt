@@ -11,8 +11,10 @@ mod pieces;
 mod pools;
 mod resources;
 mod rows;
+mod stretches;
 mod work;
 
 pub use applied::Applied;
 pub use resources::{Resources, Spot};
+pub use stretches::Written;
 pub use work::Work;

@@ -10,7 +10,7 @@ use vk_model::{Cmd, Length};
 use vk_transfer::{CopyPieces, Fill, Update};
 
 /// A fill of a buffer that lies somewhere.
-fn filling(placed: Placed, offset: u64, size: Length, word: u32) -> Fill
+pub(crate) fn filling(placed: Placed, offset: u64, size: Length, word: u32) -> Fill
     ensures { result ≡ fill_of offset size word placed }
 {
     Fill {

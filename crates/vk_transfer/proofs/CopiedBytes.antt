@@ -1,15 +1,18 @@
 -- A piece of a region of a copy, and the bytes of both buffers after it.
 use Rattle.std.proofs.Common.{◌≡◌, zero, suc, ◌∷◌, map, add-zero, ◌⊎◌, inl, inr, ℕ, ◌+◌, ◌-◌, ◌*◌, ◌<◌, ◌≤◌, List, length, eqb, false, eq-eqb, refl, ap, sym, ◌∙◌, arith, slice_index}
 use Rattle.std.proofs.lemmas.Bool.{lt-ltb, ne_eqb}
+use Rattle.std.specs.Prelude.{is_some}
 use Rattle.std.specs.List.{range_with_len}
 use Rattle.vk_heap.specs.Region.{splice, piece}
 use Rattle.vk_heap.proofs.SpliceLemmas.{length-piece, get_or-piece, splice-out}
 use Rattle.vk_model.specs.declared.command.BufferCopy.{BufferCopy}
-use Rattle.vk_model.specs.World.Bytes.{in_buffer}
+use Rattle.vk_model.specs.Run.CachedRuns.{write_to}
+use Rattle.vk_model.specs.World.Bytes.{Byte, in_buffer}
 use Rattle.vk_model.specs.World.ByteWrites.{Source, From, byte_write, copy_writes}
 use Rattle.vk_transfer.specs.Ran.{bytes_in, bytes_of, two_buffers, stretch, AreApart, HaveRun}
+use Rattle.vk_transfer.specs.Stretches.{is_byte_in}
 use Rattle.vk_transfer.specs.Copies.{region_piece, region_piece_size, FitsBuffers}
-use Rattle.vk_transfer.proofs.Ranges.{length-writes, writes, piece_writes}
+use Rattle.vk_transfer.proofs.Ranges.{length-writes, writes, piece_writes, writes_stretch}
 use Rattle.vk_transfer.proofs.Spliced.{one_ran, two_ran}
 
 -- a byte of what was read
@@ -27,6 +30,10 @@ module _ (s d : ℕ) (g : BufferCopy) where
 
   piece_is : (i : ℕ) → 4096 * i < g.size → region_piece s d g i ≡ writes d g.destination_offset source (4096 * i) (region_piece_size g i)
   piece_is i here = piece_writes d g.destination_offset source g.size i here
+
+  -- the byte writes of a piece that is there are of the bytes of a stretch
+  pub copy_stretch : (i size start : ℕ) → 4096 * i < g.size → size ≡ region_piece_size g i → (c : Byte) → is_some (write_to c (region_piece s d g i)) ≡ is_byte_in (record { at = start + g.destination_offset + 4096 * i; size = size }) d start c
+  copy_stretch i size start here is c = rw (piece_is i here, is) (writes_stretch d g.destination_offset source (4096 * i) (region_piece_size g i) start c)
 
 -- the piece as a region of its own
 shifted : {Y : Type 0} (f g : ℕ → Y) (a b n : ℕ) → ((k : ℕ) → f (a + k) ≡ g (b + k)) → map f (range_with_len a n) ≡ map g (range_with_len b n)

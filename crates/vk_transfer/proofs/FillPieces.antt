@@ -1,18 +1,22 @@
 -- A piece of a fill, and the region's bytes after it.
 use Rattle.std.proofs.Common.{◌≡◌, ℕ, ◌+◌, ◌-◌, ◌*◌, ◌/◌, ◌%◌, ◌<◌, ◌≤◌, List, map, length, ap, sym, ◌∙◌, arith, subst, slice_index}
 use Rattle.std.proofs.Math.Nat.{mul-add-mod_self_left}
+use Rattle.std.specs.Prelude.{is_some}
 use Rattle.std.specs.List.{range_with_len}
 use Rattle.std.specs.Int.{to_le_bytes, w32}
 use Rattle.vk_heap.specs.Region.{splice, repeated}
 use Rattle.vk_heap.proofs.RegionLemmas.{length-repeated}
 use Rattle.vk_model.specs.Basics.{byte_of}
+use Rattle.vk_model.specs.World.Bytes.{Byte}
 use Rattle.vk_model.specs.World.ByteWrites.{Source, Value, ByteWrite}
 use Rattle.vk_model.specs.Run.Pieces.{cut}
+use Rattle.vk_model.specs.Run.CachedRuns.{write_to}
 use Rattle.vk_transfer.specs.declared.filling.Fill.{Fill}
 use Rattle.vk_transfer.specs.Ran.{bytes_in, HaveRun}
+use Rattle.vk_transfer.specs.Stretches.{is_byte_in}
 use Rattle.vk_transfer.specs.Fills.{fill_writes, fill_piece, piece_size}
 use Rattle.vk_transfer.proofs.Finding.{word_at}
-use Rattle.vk_transfer.proofs.Ranges.{length-writes, write, writes}
+use Rattle.vk_transfer.proofs.Ranges.{length-writes, write, writes, writes_stretch}
 use Rattle.vk_transfer.proofs.Ranges.{piece_writes as nth_writes, piece_below as nth_below}
 use Rattle.vk_transfer.proofs.Spliced.{one_ran}
 
@@ -43,6 +47,10 @@ module _ (b : ℕ) (f : Fill) where
   -- the byte writes of a piece that is there
   pub piece_writes : (i : ℕ) → 4096 * i < f.size → fill_piece b f i ≡ map fill_write (range_with_len (4096 * i) (piece_size f i))
   piece_writes i here = nth_writes b f.offset source f.size i here
+
+  -- they are of the bytes of a stretch
+  pub fill_stretch : (i size start : ℕ) → 4096 * i < f.size → size ≡ piece_size f i → (c : Byte) → is_some (write_to c (fill_piece b f i)) ≡ is_byte_in (record { at = start + f.offset + 4096 * i; size = size }) b start c
+  fill_stretch i size start here is c = rw (piece_writes i here, is) (writes_stretch b f.offset source (4096 * i) (piece_size f i) start c)
 
   -- a piece, by its number
   pub piece_ran : (region : List ℕ) (start i : ℕ) → f.size ≡ 4 * (f.size / 4) → start + f.offset + f.size ≤ length region → 4096 * i < f.size

@@ -1,14 +1,17 @@
 -- Byte writes of bytes of a buffer that follow each other: which one is of a byte, their pieces, and that they have been made.
 use Rattle.std.proofs.Common.{◌≡◌, ◌⊎◌, inl, inr, ℕ, ◌+◌, ◌-◌, ◌*◌, ◌/◌, ◌%◌, ◌<◌, ◌≤◌, List, [], map, length, min, Bool, true, false, ◌&&◌, eqb, eq-eqb, refl, ap, sym, ◌∙◌, arith, slice_get, Some, None}
+use Rattle.std.specs.Prelude.{is_some}
 use Rattle.std.proofs.lemmas.Bool.{eqb-true, cases_lt}
+use Rattle.std.proofs.lemmas.Bool.Decides.{nat_tests}
 use Rattle.std.proofs.lemmas.List.FromFn.{length-map-range_with_len}
 use Rattle.std.specs.List.{range_with_len}
-use Rattle.vk_model.specs.Basics.{below}
+use Rattle.vk_model.specs.Basics.{below, within}
 use Rattle.vk_model.specs.World.Bytes.{Byte, in_buffer, in_image, same_byte}
 use Rattle.vk_model.specs.World.ByteWrites.{Source, ByteWrite, byte_write}
 use Rattle.vk_model.specs.Run.Pieces.{cut}
 use Rattle.vk_model.specs.Run.CachedRuns.{write_to}
 use Rattle.vk_transfer.specs.Ran.{given, stored, HaveRun}
+use Rattle.vk_transfer.specs.Stretches.{is_byte_in}
 use Rattle.vk_transfer.proofs.Cutting.{cut_at, cut_count, cut_range}
 use Rattle.vk_transfer.proofs.Finding.{find_one, find_none}
 
@@ -64,6 +67,24 @@ module _ (b offset : ℕ) (source : ℕ → Source) where
         only : (j : ℕ) (t : Bool) → eqb (offset + j) k ≡ t → (eqb b b && t) ≡ true → j ≡ k - offset
         only j true e is_it = let same = eqb-true (offset + j) k e in omega arith
         only j false e is_it = let not_it : (eqb b b && false) ≡ false = rw (eq-eqb b b refl) refl in absurd cc
+
+    -- they are of the bytes of a stretch, where the buffer lies from a place on
+    pub writes_stretch : (start : ℕ) (c : Byte) → is_some (write_to c (writes lo n)) ≡ is_byte_in (record { at = start + offset + lo; size = n }) b start c
+    writes_stretch start (in_image i l a x y p) = rw (image_missed i l a x y p) refl
+    writes_stretch start (in_buffer c k) = go (eqb b c) refl
+      where
+        here : is_some (write_to (in_buffer b k) (writes lo n)) ≡ within (start + offset + lo) n (start + k)
+        here = elim (cases_lt k (offset + lo)) [
+          | inl lt ↦ rw (outside_missed k (inl lt)) (grind (arith, nat_tests))
+          | inr ge ↦ elim (cases_lt k (offset + lo + n)) [
+            | inl lt ↦ rw (inside_found k ge lt) (grind (arith, nat_tests))
+            | inr le ↦ rw (outside_missed k (inr le)) (grind (arith, nat_tests))
+          ]
+        ]
+
+        go : (t : Bool) → eqb b c ≡ t → is_some (write_to (in_buffer c k) (writes lo n)) ≡ (t && within (start + offset + lo) n (start + k))
+        go true e = let same : b ≡ c = eqb-true b c e in rw (sym same) here
+        go false e = rw (other_missed c k e) refl
 
     -- each of these bytes has its source's value, and no other byte has changed
     pub record Made (old new : Byte → ℕ) : Type 0 where

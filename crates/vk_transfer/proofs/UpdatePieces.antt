@@ -1,16 +1,19 @@
 -- A piece of an update, and the region's bytes after it.
 use Rattle.std.proofs.Common.{◌≡◌, ℕ, suc, ◌+◌, ◌*◌, ◌<◌, ◌≤◌, List, [], ◌∷◌, map, length, refl, ap, sym, ◌∙◌, arith, slice_index, slice_index_or, zero-add, add-zero}
 use Rattle.std.proofs.lemmas.List.{get_or_default}
+use Rattle.std.specs.Prelude.{is_some}
 use Rattle.std.specs.List.{enumerate_from, range_with_len}
 use Rattle.vk_heap.specs.Region.{splice, piece}
 use Rattle.vk_heap.proofs.SpliceLemmas.{length-piece, get_or-piece}
 use Rattle.vk_model.specs.Basics.{below}
-use Rattle.vk_model.specs.World.Bytes.{in_buffer}
+use Rattle.vk_model.specs.Run.CachedRuns.{write_to}
+use Rattle.vk_model.specs.World.Bytes.{Byte, in_buffer}
 use Rattle.vk_model.specs.World.ByteWrites.{Source, Value, ByteWrite, byte_write}
 use Rattle.vk_transfer.specs.declared.updating.Update.{Update}
 use Rattle.vk_transfer.specs.Ran.{bytes_in, HaveRun}
+use Rattle.vk_transfer.specs.Stretches.{is_byte_in}
 use Rattle.vk_transfer.specs.Updates.{update_writes, update_piece, update_piece_size}
-use Rattle.vk_transfer.proofs.Ranges.{nth_piece, length-writes, write, writes, piece_writes}
+use Rattle.vk_transfer.proofs.Ranges.{nth_piece, length-writes, write, writes, piece_writes, writes_stretch}
 use Rattle.vk_transfer.proofs.Spliced.{one_ran}
 
 -- what is done with each item and its number, by the numbers
@@ -34,6 +37,10 @@ module _ (b : ℕ) (u : Update) where
   -- the byte writes of a piece that is there
   pub update_piece_writes : (i : ℕ) → 4096 * i < length u.bytes.now → update_piece b u i ≡ writes b u.offset source (4096 * i) (update_piece_size u i)
   update_piece_writes i here = ap (λ (ms : List ByteWrite). nth_piece ms i) all_writes ∙ piece_writes b u.offset source (length u.bytes.now) i here
+
+  -- they are of the bytes of a stretch
+  pub update_stretch : (i size start : ℕ) → 4096 * i < length u.bytes.now → size ≡ update_piece_size u i → (c : Byte) → is_some (write_to c (update_piece b u i)) ≡ is_byte_in (record { at = start + u.offset + 4096 * i; size = size }) b start c
+  update_stretch i size start here is c = rw (update_piece_writes i here, is) (writes_stretch b u.offset source (4096 * i) (update_piece_size u i) start c)
 
   -- a piece, by its number
   pub update_ran : (region : List ℕ) (start i : ℕ) → start + u.offset + length u.bytes.now ≤ length region → 4096 * i < length u.bytes.now

@@ -3,4 +3,5 @@ pub mod Fills
 pub mod Updates
 pub mod Copies
 pub mod Counted
+pub mod Stretches
 pub mod Inner

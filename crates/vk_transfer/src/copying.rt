@@ -1,11 +1,15 @@
-ghost use Rattle.std.specs.Prelude.{◌≡◌, ◌+◌, ◌*◌, ◌^◌, ◌<◌, ◌≤◌, ℕ, length};
+ghost use Rattle.std.specs.Prelude.{◌≡◌, ◌+◌, ◌*◌, ◌^◌, ◌<◌, ◌≤◌, ℕ, length, is_some};
 ghost use Rattle.vk_heap.specs.Region.{splice, piece};
+ghost use Rattle.vk_model.specs.Run.CachedRuns.{write_to};
 ghost use Rattle.vk_model.specs.Run.Pieces.{cut};
+ghost use Rattle.vk_model.specs.World.Bytes.{Byte};
 ghost use Rattle.vk_model.specs.World.ByteWrites.{copy_writes};
 ghost use Rattle.vk_transfer.specs.Copies.{region_piece, region_piece_size, FitsBuffers};
 ghost use Rattle.vk_transfer.specs.Ran.{bytes_in, bytes_of, two_buffers, stretch, AreApart, HaveRun};
+ghost use Rattle.vk_transfer.specs.Stretches.{is_byte_in};
 
 use crate::pieces::{PIECE, piece_count, piece_size};
+use crate::stretches::Stretch;
 use vk_heap::Region;
 use vk_model::BufferCopy;
 
@@ -39,6 +43,21 @@ impl RegionCopy {
         BufferCopy {
             source_offset: self.region.source_offset + before,
             destination_offset: self.region.destination_offset + before,
+            size: piece_size(self.region.size, number),
+        }
+    }
+
+    /// The bytes that the piece of this number writes, where the destination lies from `start` on.
+    pub fn stretch(&self, number: u64, start: u64) -> Stretch
+        requires end { start + self.now.region.destination_offset + self.now.region.size < 2 ^ 64 }
+        requires piece { 4096 * number < self.now.region.size }
+        ensures written { (s d : ℕ) (c : Byte) → is_some (write_to c (region_piece s d self.now.region number)) ≡ is_byte_in result d start c }
+        ensures some { 0 < result.size }
+        ensures from { start + self.now.region.destination_offset ≤ result.at }
+        ensures to { result.at + result.size ≤ start + self.now.region.destination_offset + self.now.region.size }
+    {
+        Stretch {
+            at: start + self.region.destination_offset + PIECE * number,
             size: piece_size(self.region.size, number),
         }
     }

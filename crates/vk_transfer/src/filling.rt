@@ -1,11 +1,15 @@
-ghost use Rattle.std.specs.Prelude.{◌≡◌, ◌+◌, ◌*◌, ◌/◌, ◌<◌, ◌≤◌, ℕ, length};
+ghost use Rattle.std.specs.Prelude.{◌≡◌, ◌+◌, ◌*◌, ◌/◌, ◌^◌, ◌<◌, ◌≤◌, ℕ, length, is_some};
 ghost use Rattle.std.specs.Int.{to_le_bytes, w32};
 ghost use Rattle.vk_heap.specs.Region.{splice, repeated};
+ghost use Rattle.vk_model.specs.Run.CachedRuns.{write_to};
 ghost use Rattle.vk_model.specs.Run.Pieces.{cut};
+ghost use Rattle.vk_model.specs.World.Bytes.{Byte};
 ghost use Rattle.vk_transfer.specs.Fills.{fill_writes, fill_piece, piece_size};
 ghost use Rattle.vk_transfer.specs.Ran.{bytes_in, HaveRun};
+ghost use Rattle.vk_transfer.specs.Stretches.{is_byte_in};
 
 use crate::pieces::{PIECE, piece_count, piece_size};
+use crate::stretches::Stretch;
 use vk_heap::Region;
 
 /// A fill of a buffer, with the bytes that it writes there (Vulkan, "Filling Buffers").
@@ -26,6 +30,21 @@ impl Fill {
         ensures { (b : ℕ) → result ≡ length (cut 4096 (fill_writes b self.now)) }
     {
         piece_count(self.size)
+    }
+
+    /// The bytes that the piece of this number writes, where the buffer lies from `start` on.
+    pub fn stretch(&self, number: u64, start: u64) -> Stretch
+        requires end { start + self.now.offset + self.now.size < 2 ^ 64 }
+        requires piece { 4096 * number < self.now.size }
+        ensures written { (b : ℕ) (c : Byte) → is_some (write_to c (fill_piece b self.now number)) ≡ is_byte_in result b start c }
+        ensures some { 0 < result.size }
+        ensures from { start + self.now.offset ≤ result.at }
+        ensures to { result.at + result.size ≤ start + self.now.offset + self.now.size }
+    {
+        Stretch {
+            at: start + self.offset + PIECE * number,
+            size: piece_size(self.size, number),
+        }
     }
 
     /// Runs the piece of this number on the region in which the buffer lies from `start` on.

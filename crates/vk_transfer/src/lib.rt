@@ -6,10 +6,12 @@ mod counts;
 mod filling;
 mod pieces;
 mod regions;
+mod stretches;
 mod updating;
 
 pub use copying::RegionCopy;
 pub use counts::{CopyError, Counts, FoundPart};
 pub use filling::Fill;
 pub use regions::{CopyPieces, FoundPiece};
+pub use stretches::Stretch;
 pub use updating::Update;

@@ -1,10 +1,14 @@
-ghost use Rattle.std.specs.Prelude.{◌≡◌, ◌+◌, ◌*◌, ◌<◌, ◌≤◌, ℕ, length};
+ghost use Rattle.std.specs.Prelude.{◌≡◌, ◌+◌, ◌*◌, ◌^◌, ◌<◌, ◌≤◌, ℕ, length, is_some};
 ghost use Rattle.vk_heap.specs.Region.{splice, piece};
+ghost use Rattle.vk_model.specs.Run.CachedRuns.{write_to};
 ghost use Rattle.vk_model.specs.Run.Pieces.{cut};
+ghost use Rattle.vk_model.specs.World.Bytes.{Byte};
 ghost use Rattle.vk_transfer.specs.Updates.{update_writes, update_piece, update_piece_size};
 ghost use Rattle.vk_transfer.specs.Ran.{bytes_in, HaveRun};
+ghost use Rattle.vk_transfer.specs.Stretches.{is_byte_in};
 
 use crate::pieces::{PIECE, piece_count, piece_size};
+use crate::stretches::Stretch;
 use vk_heap::Region;
 
 /// An update of a buffer, with the bytes that it writes there (Vulkan, "Updating Buffers").
@@ -23,6 +27,21 @@ impl<'b> Update<'b> {
         ensures { (b : ℕ) → result ≡ length (cut 4096 (update_writes b self.now)) }
     {
         piece_count(self.bytes.len() as u64)
+    }
+
+    /// The bytes that the piece of this number writes, where the buffer lies from `start` on.
+    pub fn stretch(&self, number: u64, start: u64) -> Stretch
+        requires end { start + self.now.offset + length self.now.bytes.now < 2 ^ 64 }
+        requires piece { 4096 * number < length self.now.bytes.now }
+        ensures written { (b : ℕ) (c : Byte) → is_some (write_to c (update_piece b self.now number)) ≡ is_byte_in result b start c }
+        ensures some { 0 < result.size }
+        ensures from { start + self.now.offset ≤ result.at }
+        ensures to { result.at + result.size ≤ start + self.now.offset + length self.now.bytes.now }
+    {
+        Stretch {
+            at: start + self.offset + PIECE * number,
+            size: piece_size(self.bytes.len() as u64, number),
+        }
     }
 
     /// Runs the piece of this number on the region in which the buffer lies from `start` on.

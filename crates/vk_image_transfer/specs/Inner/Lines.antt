@@ -30,6 +30,13 @@ pub record LineFits (l : Line) (count t size : ℕ) : Type 0 where
 abbrev pub LineApart : Line → (count t : ℕ) → Type 0
 LineApart l count t = (x p u q : ℕ) → x < count → u < count → p < t → q < t → line_place l x + p ≡ line_place l u + q → x ≡ u
 
+-- Texels of a line that are walked, from texel x on: they share no byte, and end within what a number of 64 bits counts.
+pub record IsWalked (l : Line) (x count t : ℕ) : Type 0 where
+  pub some : 0 < t
+  pub there : x ≤ count
+  pub fits : LineFits l count t 18446744073709551615
+  pub apart : LineApart l count t
+
 -- How many rows a region has; none where it has no texel.
 abbrev pub rows_of : (width height layers : ℕ) → ℕ
 rows_of width height layers = if width == 0 then 0 else layers * height

@@ -44,6 +44,10 @@ pub record RegionsReady (s : Held) (size i : ℕ) (gs : List BufferImageCopy) (k
   pub fits : All (λ g. BoxFits with.image (region_box g) × RegionFits g (texel with.image.format) size) gs
   pub piece : k < sum_by row_count gs
 
+-- The same of some buffer.
+abbrev pub MayCopyIn : (s : Held) (i : ℕ) (gs : List BufferImageCopy) (k : ℕ) → Type 0
+MayCopyIn s i gs k = (size : ℕ) × RegionsReady s size i gs k
+
 -- Two images are there, with texels of one size (Vulkan, "Copying Data Between Images", on size-compatible formats).
 pub record ArePictures (s : Held) (a b : ℕ) : Type 0 where
   pub from : HasPicture s a
