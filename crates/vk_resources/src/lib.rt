@@ -11,8 +11,9 @@ mod pieces;
 mod pools;
 mod resources;
 mod rows;
+mod views;
 mod work;
 
 pub use applied::Applied;
-pub use resources::{Resources, Spot};
+pub use resources::{Placed, Resources, Spot};
 pub use work::Work;
