@@ -35,7 +35,7 @@ pub struct Own {
 #[derive(Drop)]
 pub struct Backing {
     /// What an id has of its own.
-    owned: BTreeMap<u32, Own>,
+    pub(crate) owned: BTreeMap<u32, Own>,
     pub(crate) pools: Pools,
     /// The number of each pool, by its id.
     pub(crate) numbers: BTreeMap<u32, u64>,

@@ -4,6 +4,7 @@
 
 mod backing;
 mod passes;
+mod views;
 
 pub use backing::{Backing, Own};
 pub use passes::{MovingResource, Passes};

@@ -39,7 +39,7 @@ pub struct Passes {
     /// The defragmentations, by their ids.
     defrags: BTreeMap<u32, Defrag>,
     /// The id of the one whose pass is open.
-    opened: Option<u32>,
+    pub(crate) opened: Option<u32>,
     /// The ids of the resources that move in it, in the order of its moves.
     moving: Vec<u32>,
 }

@@ -3,6 +3,8 @@
 
 mod copying;
 mod memories;
+mod views;
 
 pub use copying::RegionCopy;
 pub use memories::{MapState, Memories, MemoryError};
+pub use views::ObjectInfo;

@@ -79,9 +79,9 @@ pub struct Object {
 #[derive(Drop)]
 pub struct Memories {
     alloc: Global,
-    heap0: Budget,
-    heap1: Budget,
-    objects: Vec<Option<Object>>,
+    pub(crate) heap0: Budget,
+    pub(crate) heap1: Budget,
+    pub(crate) objects: Vec<Option<Object>>,
     live: usize,
 }
 

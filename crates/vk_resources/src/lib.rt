@@ -12,9 +12,10 @@ mod pools;
 mod resources;
 mod rows;
 mod stretches;
+mod views;
 mod work;
 
 pub use applied::Applied;
-pub use resources::{Resources, Spot};
+pub use resources::{Placed, Resources, Spot};
 pub use stretches::Written;
 pub use work::Work;

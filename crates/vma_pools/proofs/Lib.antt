@@ -28,3 +28,4 @@ pub mod SettledBacks
 pub mod ResidentLemmas
 mod KeptNumbers
 mod ListingLemmas
+mod ViewLemmas

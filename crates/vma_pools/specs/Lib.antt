@@ -5,4 +5,5 @@ pub mod State
 pub mod Exhausted
 pub mod Moves
 pub mod Listing
+pub mod Views
 pub mod Inner

@@ -21,7 +21,7 @@ use vma_blocks::PoolBlock;
 /// pass what can be counted, 2^64 bytes, answers that there is no memory.
 #[derive(Drop)]
 pub(crate) struct CountedPool<B: PoolBlock> {
-    pool: PoolOf<B>,
+    pub(crate) pool: PoolOf<B>,
     /// How many ranges are taken; one that is reserved counts.
     ranges: usize,
     /// The bytes of these ranges.

@@ -12,10 +12,12 @@ mod numbers;
 mod pool;
 mod pools;
 mod settling;
+mod views;
 
 pub use allocations::{Allocation, Asked, Home};
 pub use pool::PoolPlace;
 pub use pools::PoolsOf;
+pub use views::BlockObject;
 use vma_blocks::AnyBlock;
 
 /// Pools whose blocks are placed by either algorithm.

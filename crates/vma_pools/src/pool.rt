@@ -30,7 +30,7 @@ pub struct PoolPlace {
 #[derive(Drop)]
 pub(crate) struct PoolOf<B: PoolBlock> {
     info: PoolInfo,
-    blocks: Vec<Held<B>>,
+    pub(crate) blocks: Vec<Held<B>>,
     next: u64,
 }
 
