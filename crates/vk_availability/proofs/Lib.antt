@@ -1,0 +1,2 @@
+mod StretchLemmas
+mod Behind
