@@ -143,12 +143,49 @@ WRONG = {
         "expected 4 numbers (red, green, blue, alpha)",
     ),
     "a region of two numbers": (lambda: BATCH.copy(BUFFER, BUFFER, (0, 1)), "expected 3 numbers (source offset"),
+    "a region of nine numbers": (
+        lambda: BATCH.copy_in(BUFFER, IMAGE, regions=[[0] * 9]),
+        "copy_in: region: expected 10 numbers (buffer offset, row length",
+    ),
+    "a row length of 64 bits": (
+        lambda: BATCH.copy_out(IMAGE, BUFFER, regions=[(0, 1 << 32, 0, 0, 0, 1, 0, 0, 8, 8)]),
+        "copy_out: region: row length: 4294967296 is not from 0 to 4294967295",
+    ),
+    "rows of 0 bytes": (lambda: BATCH.copy_in(BUFFER, IMAGE, row_bytes=0), "row_bytes: expected 1 or more; found 0"),
     "levels past the last": (lambda: BATCH.copy_in(BUFFER, IMAGE, levels=range(1, 3)), "among the 2 of the image"),
     "a wait without a value": (lambda: T.wait((SEMAPHORE,)), "wait: expected (semaphore, value)"),
     "text for bytes": (lambda: T.write(BUFFER, "00"), "write: expected bytes; found '00'"),
     "an offset in memory of its own": (lambda: T.buffer(1, offset=16), "an offset is one in a memory object"),
     "an object of another trace": (lambda: zorthewin.Trace().map(BUFFER), "is of another trace"),
 }
+
+
+def judge_rows():
+    """Levels whose rows take a multiple of some bytes, and a part of a level as a region of ten numbers."""
+    t = zorthewin.Trace()
+    image = t.image("R8G8B8A8_UINT", 5, 3, levels=2, layers=2)
+    places, size = image.packed(row_bytes=16)
+    found = (places, size, image.row_length(0, 16), image.row_length(1, 6), image.level_bytes(0, 16))
+    if found != ([0, 192], 224, 8, 3, 96):
+        return f"found {found}"
+    upload, download = (t.buffer(size, memory="HOST_COHERENT") for _ in range(2))
+    done = t.semaphore()
+    data = bytes(range(size))
+    t.map(upload)
+    t.write(upload, data)
+    wrote, read = "TRANSFER:TRANSFER_WRITE", "TRANSFER:TRANSFER_READ"
+    with t.batch(signals=[(done, 1)]) as b:
+        b.transition(image, "UNDEFINED", "GENERAL", dst=wrote)
+        b.copy_in(upload, image, "GENERAL", row_bytes=16)
+        b.barrier(src=wrote, dst=read)
+        b.copy_out(image, download, "GENERAL", regions=[(0, 0, 0, 0, 1, 1, 2, 1, 3, 2)])
+        b.barrier(src=wrote, dst="HOST:HOST_READ")
+    t.wait((done, 1))
+    t.map(download)
+    t.read(download, 24)
+    # (texels 2 to 4 of rows 1 and 2 of layer 1, of rows that take 32 bytes)
+    wanted = b"".join(data[96 + 32 * row + 8 : 96 + 32 * row + 20] for row in (1, 2))
+    return unlike([each[1] for each in t.replay(PROGRAM).reads], [wanted])
 
 
 def judge_wrong(call, wanted):
@@ -184,6 +221,7 @@ def module_tests():
     yield Test("module: every form", judge_forms)
     yield Test("module: the line of a call", judge_site)
     yield Test("module: what a replay answers", judge_answers)
+    yield Test("module: rows and regions", judge_rows)
     yield Test("module: a program that isn't there", judge_absent)
     yield Test("module: the example of the pages", judge_example)
     for what, (call, wanted) in WRONG.items():

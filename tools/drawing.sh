@@ -11,7 +11,7 @@ for argument; do
         exit 0
         ;;
     --picture | --picture=* | --timeline | --timeline=*)
-        if ! python3 -c 'import sys; sys.exit(sys.version_info < (3, 8))' 2>/dev/null; then
+        if ! command -v python3 >/dev/null; then
             echo "explain: --picture and --timeline need python3, 3.8 or later" >&2
             exit 70
         fi

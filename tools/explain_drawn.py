@@ -15,6 +15,9 @@ import subprocess
 import sys
 from pathlib import Path
 
+if sys.version_info < (3, 8):
+    print("explain: --picture and --timeline need python3, 3.8 or later", file=sys.stderr)
+    sys.exit(70)
 sys.dont_write_bytecode = True
 
 from command_line import NOT_DONE, STANDARD_INPUT, Arguments, read_all, run_tool

@@ -5,6 +5,7 @@ const get = (id) => document.getElementById(id);
 const DELAY = 250; // milliseconds from the last change of the trace to its verdict
 const EXAMPLES = JSON.parse(get("examples").textContent);
 const FIRST = "missing_dependency";
+const LEAST_SCALE = 0.78; // of a picture
 let library = null;
 let said = null; // what explain says of the trace, as an object
 let waiting = 0;
@@ -63,12 +64,16 @@ function draw() {
   const isTrace = said !== null && said.verdict !== "no trace";
   get("drawn").hidden = !isTrace;
   if (!isTrace) return;
-  const picture = pictured(get("trace").value, said, get("whole").checked, get("frame").clientWidth || get("drawn").clientWidth);
+  const room = get("frame").clientWidth || get("drawn").clientWidth;
+  const picture = pictured(get("trace").value, said, get("whole").checked, room);
   get("part").hidden = said.verdict === "accepted";
   get("undrawn").hidden = picture !== null;
   get("undrawn").textContent = `A trace of more than ${MOST_POINTS} points isn't drawn whole.`;
   get("frame").hidden = get("save").hidden = picture === null;
   get("picture").src = get("save").href = `data:image/svg+xml;charset=utf-8,${encodeURIComponent(picture || "")}`;
+  // (one that is still too wide is made smaller, as far as it can be read then)
+  const width = picture ? Number(/ width="(\d+)"/.exec(picture)[1]) : 0;
+  get("picture").style.width = `${Math.max(Math.min(width, room), Math.ceil(width * LEAST_SCALE))}px`;
 }
 
 function judge() {

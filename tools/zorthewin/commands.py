@@ -91,17 +91,21 @@ class Batch:
             [image_range(image, levels, layers)],
         )
 
-    def copy_in(self, buffer, image, layout="TRANSFER_DST_OPTIMAL", levels=None, layers=None, offset=0):
-        """Copies levels of an image out of a buffer, where they lie as `Image.packed` says."""
+    def copy_in(
+        self, buffer, image, layout="TRANSFER_DST_OPTIMAL", levels=None, layers=None, offset=0, row_bytes=1, regions=None
+    ):
+        """Copies levels of an image out of a buffer, where they lie as `Image.packed` says; or regions of ten numbers."""
         row = ["copy_in", ids(buffer, Buffer, "copy_in: buffer"), ids(image, Image, "copy_in: image")]
-        self.add(
-            *row, number(layout, forms.LAYOUT, "copy_in: layout"), level_regions(image, levels, layers, offset)
-        )
+        row += [number(layout, forms.LAYOUT, "copy_in: layout")]
+        self.add(*row, buffer_regions("copy_in", regions) or level_regions(image, levels, layers, offset, row_bytes))
 
-    def copy_out(self, image, buffer, layout="TRANSFER_SRC_OPTIMAL", levels=None, layers=None, offset=0):
-        """Copies levels of an image to a buffer, where they lie as `Image.packed` says."""
+    def copy_out(
+        self, image, buffer, layout="TRANSFER_SRC_OPTIMAL", levels=None, layers=None, offset=0, row_bytes=1, regions=None
+    ):
+        """Copies levels of an image to a buffer, where they lie as `Image.packed` says; or regions of ten numbers."""
         row = ["copy_out", ids(image, Image, "copy_out: image"), number(layout, forms.LAYOUT, "copy_out: layout")]
-        self.add(*row, ids(buffer, Buffer, "copy_out: buffer"), level_regions(image, levels, layers, offset))
+        row += [ids(buffer, Buffer, "copy_out: buffer")]
+        self.add(*row, buffer_regions("copy_out", regions) or level_regions(image, levels, layers, offset, row_bytes))
 
     def copy_image(
         self,
@@ -166,15 +170,27 @@ def image_range(image, levels, layers):
     return [*span(levels, image.levels, f"{image}: levels"), *span(layers, image.layers, f"{image}: layers")]
 
 
-def level_regions(image, levels, layers, offset):
+def level_regions(image, levels, layers, offset, row_bytes):
     """A region of a copy with a buffer for each level."""
     first, count = span(levels, image.levels, f"{image}: levels")
     layer, many = span(layers, image.layers, f"{image}: layers")
-    places, _ = image.packed(levels, layers, large(offset, "offset"))
-    return [
-        [place, 0, 0, level, layer, many, 0, 0, *image.sides(level)]
-        for place, level in zip(places, range(first, first + count))
-    ]
+    places, _ = image.packed(levels, layers, large(offset, "offset"), row_bytes)
+    found = []
+    for place, level in zip(places, range(first, first + count)):
+        width, height = image.sides(level)
+        length = image.row_length(level, row_bytes)
+        found.append([place, 0 if length == width else length, 0, level, layer, many, 0, 0, width, height])
+    return found
+
+
+def buffer_regions(what, regions):
+    """Regions of a copy with a buffer, as they are written."""
+    names = [name for name, _ in forms.BUFFER_IMAGE_REGION.members]
+    rows = [counted(region, names, f"{what}: region", forms.LARGE) for region in regions or ()]
+    for row in rows:
+        for name, value in zip(names[1:], row[1:]):
+            number(value, forms.SMALL, f"{what}: region: {name}")
+    return rows
 
 
 def families(pair, what):

@@ -1,6 +1,8 @@
 """The objects of a trace: what makes them answers one, and calls take it in place of an id."""
 
-from .names import Wrong, span
+from math import gcd
+
+from .names import Wrong, large, span
 
 TEXEL_BYTES = {
     **{"R8_UINT": 1, "R8G8_UINT": 2, "R8G8B8A8_UINT": 4, "R16_UINT": 2},
@@ -77,22 +79,35 @@ class Image(Object):
         span(level, self.levels, f"{self}: levels")
         return max(1, self.width >> level), max(1, self.height >> level)
 
-    def level_bytes(self, level):
-        """How many bytes a layer of a level has where its rows lie one behind the other."""
-        width, height = self.sides(level)
-        return width * height * self.texel
+    def row_length(self, level, row_bytes=1):
+        """How many texels a row of a level has in a buffer where each row takes a multiple of so many bytes."""
+        if large(row_bytes, f"{self}: row_bytes") == 0:
+            raise Wrong(f"{self}: row_bytes: expected 1 or more; found 0")
+        width, _ = self.sides(level)
+        return rounded(width, row_bytes // gcd(row_bytes, self.texel))
 
-    def packed(self, levels=None, layers=None, offset=0):
-        """Where in a buffer each level begins where all lie one behind the other, each at a multiple of its texel
-        and of 4 bytes, and where the last one ends."""
+    def level_bytes(self, level, row_bytes=1):
+        """How many bytes a layer of a level has in a buffer where each row takes a multiple of so many bytes."""
+        _, height = self.sides(level)
+        return self.row_length(level, row_bytes) * height * self.texel
+
+    def packed(self, levels=None, layers=None, offset=0, row_bytes=1):
+        """Where in a buffer each level begins where all lie one behind the other, each at a multiple of its texel,
+        of 4 bytes and of row_bytes, and where the last one ends. Each row takes a multiple of row_bytes."""
         first, count = span(levels, self.levels, f"{self}: levels")
         _, many = span(layers, self.layers, f"{self}: layers")
         step, places = max(self.texel, 4), []
         for level in range(first, first + count):
-            offset = -(-offset // step) * step
+            size = self.level_bytes(level, row_bytes) * many
+            offset = rounded(offset, step * row_bytes // gcd(step, row_bytes))
             places.append(offset)
-            offset += self.level_bytes(level) * many
+            offset += size
         return places, offset
+
+
+def rounded(number, step):
+    """The least multiple of a step that isn't below a number."""
+    return -(-number // step) * step
 
 
 def ids(value, kinds, what):
