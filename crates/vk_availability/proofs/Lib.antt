@@ -1,2 +1,3 @@
 mod StretchLemmas
 mod Behind
+mod WritingBack

@@ -6,5 +6,7 @@
 #![tactic(auto)]
 
 mod pieces;
+mod touches;
 
 pub use pieces::make_late;
+pub use touches::write_back;
