@@ -1,7 +1,7 @@
 #!/usr/bin/env python3
 """Tests the C library from C, C++, Rust and Python: on all examples it answers as the programs do.
 
-    PROGRAM=FILE EXPLAIN=FILE EMIT=FILE tests/c_library.py [WORD]
+    PROGRAM=FILE EXPLAIN=FILE EMIT=FILE PLACES=FILE tests/c_library.py [WORD]
 
 LIBRARY names the folder with the library; else it is out/library, or release, where that was made of the sources as
 they are (tools/c_library), and where neither was all is skipped. What needs a compiler is skipped without it. With
@@ -144,8 +144,8 @@ def judge_install():
         if not shutil.which(tool):
             raise Skipped(f"this needs {tool}")
     top = Path(ROOM.name) / "prefix"
-    emit = os.environ.get("EMIT") or str(TOP / "emit")
-    names = [f"PREFIX={top}", f"PROGRAM={PROGRAM}", f"EXPLAIN={EXPLAIN}", f"EMIT={emit}", f"LIBRARY={FOLDER}"]
+    others = [f"{name.upper()}={os.environ.get(name.upper()) or TOP / name}" for name in ("emit", "places")]
+    names = [f"PREFIX={top}", f"PROGRAM={PROGRAM}", f"EXPLAIN={EXPLAIN}", *others, f"LIBRARY={FOLDER}"]
     ran = run(["make", "-C", str(TOP), "install", *names])
     if ran.status != 0:
         return str(ran)

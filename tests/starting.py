@@ -1,5 +1,5 @@
 #!/usr/bin/env python3
-"""Tests which program ./replay, ./explain and ./emit run: one that was built here, the released one, or a new build.
+"""Tests which program ./replay, ./explain, ./emit and ./places run: one that was built here, the released one, or a new build.
 
     tests/starting.py
 
@@ -18,9 +18,9 @@ sys.dont_write_bytecode = True
 
 from harness import TOP, Answer, Test, difference, main, run
 
-SCRIPTS = ("replay", "explain", "emit", "tools/program", "tools/build", "tools/crates.sh", "tools/release", ".ci/no_toolchain")
-PROGRAMS = ("replay", "explain", "emit")
-CRATES = "low:\nvk_replay: low\nexplain: low\nemit: low\n"
+SCRIPTS = ("replay", "explain", "emit", "places", "tools/program", "tools/build", "tools/crates.sh", "tools/release", ".ci/no_toolchain")
+PROGRAMS = ("replay", "explain", "emit", "places")
+CRATES = "low:\nvk_replay: low\nexplain: low\nemit: low\nplaces: low\n"
 FILES = {
     "crates.txt": CRATES,
     "VERSION": "1.2.3\n",
@@ -29,6 +29,7 @@ FILES = {
     "crates/vk_replay/src/main.rt": "// two\n",
     "crates/explain/src/main.rt": "// three\n",
     "crates/emit/src/main.rt": "// four\n",
+    "crates/places/src/main.rt": "// five\n",
 }
 # A stand-in for `rt`, which "builds" a program that says that it was built of the sources as they are.
 TOOLCHAIN = """\
@@ -106,7 +107,7 @@ def runs_the_release(repository):
         found = difference(wanted, repository.start())
         if found:
             return found
-    for name in ("explain", "emit"):
+    for name in ("explain", "emit", "places"):
         found = difference(said("released --order last\n"), repository.start(name, "--order", "last"))
         if found:
             return found
@@ -224,7 +225,7 @@ def compares_the_release(repository):
     line_changed(repository)
     older = run(command, env=repository.environment())
     ends = [answer.output.splitlines()[-1] for answer in (same, other, older)]
-    wanted = [b"7 passed, 0 failed", b"6 passed, 1 failed", b"4 passed, 0 failed"]
+    wanted = [b"9 passed, 0 failed", b"8 passed, 1 failed", b"5 passed, 0 failed"]
     return None if ends == wanted else f"wanted: {wanted}\n  came:   {ends}"
 
 
