@@ -6,12 +6,13 @@
 #     make uninstall PREFIX=/usr/local
 #     make check                        runs the tests
 #
-# DESTDIR is put before each path, for packages. PROGRAM, EXPLAIN and EMIT name other programs, and
-# LIBRARY another folder with the C library.
+# DESTDIR is put before each path, for packages. PROGRAM, EXPLAIN, EMIT and PLACES name other programs,
+# and LIBRARY another folder with the C library.
 PREFIX ?= /usr/local
 PROGRAM ?= $(shell tools/program --at-once vk_replay replay </dev/null)
 EXPLAIN ?= $(shell tools/program --at-once explain explain </dev/null)
 EMIT ?= $(shell tools/program --at-once emit emit </dev/null)
+PLACES ?= $(shell tools/program --at-once places places </dev/null)
 LIBRARY ?= $(shell tools/c_library --at-once)
 BIN := $(DESTDIR)$(PREFIX)/bin
 LIB := $(DESTDIR)$(PREFIX)/lib
@@ -22,7 +23,7 @@ LIBEXEC := $(DESTDIR)$(PREFIX)/libexec/zorthewin
 # (what draws for --picture and --timeline of zorthewin-explain)
 DRAWING := drawing.sh drawing.txt explain_drawn.py picture.py pictured.py pictured_edits.py pictured_points.py \
     command_line.py trace_forms.py
-NAMES := zorthewin-replay zorthewin-explain zorthewin-emit
+NAMES := zorthewin-replay zorthewin-explain zorthewin-emit zorthewin-places
 
 .PHONY: all library page install install-programs install-library uninstall check
 
@@ -38,8 +39,8 @@ page:
 install: install-programs install-library
 
 install-programs:
-	@for program in "$(PROGRAM)" "$(EXPLAIN)" "$(EMIT)"; do \
-	    [ -x "$$program" ] || { echo "install: the programs aren't built: run ./replay, ./explain and ./emit once" >&2; exit 1; }; \
+	@for program in "$(PROGRAM)" "$(EXPLAIN)" "$(EMIT)" "$(PLACES)"; do \
+	    [ -x "$$program" ] || { echo "install: the programs aren't built: run ./replay, ./explain, ./emit and ./places once" >&2; exit 1; }; \
 	done
 	install -d "$(BIN)" "$(MAN)" "$(SHARE)/tools" "$(LIBEXEC)"
 	install -m 755 "$(PROGRAM)" "$(BIN)/zorthewin-replay"
@@ -47,6 +48,7 @@ install-programs:
 	install -m 755 tools/installed_explain "$(BIN)/zorthewin-explain"
 	install -m 644 $(DRAWING:%=tools/%) "$(SHARE)/tools"
 	install -m 755 "$(EMIT)" "$(BIN)/zorthewin-emit"
+	install -m 755 "$(PLACES)" "$(BIN)/zorthewin-places"
 	install -m 644 $(NAMES:%=man/%.1) "$(MAN)"
 	install -m 644 tools/drive/zw_drive.h "$(SHARE)"
 

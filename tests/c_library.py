@@ -2,7 +2,7 @@
 """Tests the C library from C, C++, Rust and Python, where on all examples it answers as the programs do; and what
 `make install` installs.
 
-    PROGRAM=FILE EXPLAIN=FILE EMIT=FILE tests/c_library.py [WORD]
+    PROGRAM=FILE EXPLAIN=FILE EMIT=FILE PLACES=FILE tests/c_library.py [WORD]
 
 LIBRARY names the folder with the library; else it is out/library, or release, where that was made of the sources as
 they are (tools/c_library), and where neither was all of the library is skipped. What needs a compiler is skipped
@@ -143,8 +143,8 @@ def installed(top, library):
     """The names that `make install` takes, once it has installed to a folder; skipped where there is no make."""
     if not shutil.which("make"):
         raise Skipped("this needs make")
-    emit = os.environ.get("EMIT") or str(TOP / "emit")
-    names = [f"PREFIX={top}", f"PROGRAM={PROGRAM}", f"EXPLAIN={EXPLAIN}", f"EMIT={emit}", f"LIBRARY={library}"]
+    others = [f"{name.upper()}={os.environ.get(name.upper()) or TOP / name}" for name in ("emit", "places")]
+    names = [f"PREFIX={top}", f"PROGRAM={PROGRAM}", f"EXPLAIN={EXPLAIN}", *others, f"LIBRARY={library}"]
     ran = run(["make", "-C", str(TOP), "install", *names])
     if ran.status != 0:
         raise OSError(f"make install: {ran}")

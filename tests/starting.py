@@ -1,6 +1,6 @@
 #!/usr/bin/env python3
-"""Tests which program ./replay, ./explain and ./emit run: one that was built here, the released one, or a new build;
-and what a release has.
+"""Tests which program ./replay, ./explain, ./emit and ./places run: one that was built here, the released one, or a new
+build; and what a release has.
 
     tests/starting.py
 
@@ -19,9 +19,9 @@ sys.dont_write_bytecode = True
 
 from harness import TOP, Answer, Test, difference, main, run
 
-SCRIPTS = ("replay", "explain", "emit", "tools/drawing.sh", "tools/drawing.txt", "tools/program", "tools/build", "tools/crates.sh", "tools/release", "tools/c_library", ".ci/no_toolchain")
-PROGRAMS = ("replay", "explain", "emit")
-CRATES = "low:\nvk_replay: low\nexplain: low\nemit: low\nzorthewin_c staticlib: low\n"
+SCRIPTS = ("replay", "explain", "emit", "places", "tools/drawing.sh", "tools/drawing.txt", "tools/program", "tools/build", "tools/crates.sh", "tools/release", "tools/c_library", ".ci/no_toolchain")
+PROGRAMS = ("replay", "explain", "emit", "places")
+CRATES = "low:\nvk_replay: low\nexplain: low\nemit: low\nplaces: low\nzorthewin_c staticlib: low\n"
 FILES = {
     "crates.txt": CRATES,
     "VERSION": "1.2.3\n",
@@ -30,7 +30,8 @@ FILES = {
     "crates/vk_replay/src/main.rt": "// two\n",
     "crates/explain/src/main.rt": "// three\n",
     "crates/emit/src/main.rt": "// four\n",
-    "crates/zorthewin_c/src/lib.rt": "// five\n",
+    "crates/places/src/main.rt": "// five\n",
+    "crates/zorthewin_c/src/lib.rt": "// six\n",
 }
 # A stand-in for `rt`, which "builds" a program that says that it was built of the sources as they are.
 TOOLCHAIN = """\
@@ -108,7 +109,7 @@ def runs_the_release(repository):
         found = difference(wanted, repository.start())
         if found:
             return found
-    for name in ("explain", "emit"):
+    for name in ("explain", "emit", "places"):
         found = difference(said("released --order last\n"), repository.start(name, "--order", "last"))
         if found:
             return found
@@ -239,7 +240,7 @@ def compares_the_release(repository):
     line_changed(repository)
     older = run(command, env=repository.environment())
     ends = [answer.output.splitlines()[-1] for answer in (same, other, older)]
-    wanted = [b"7 passed, 0 failed", b"6 passed, 1 failed", b"4 passed, 0 failed"]
+    wanted = [b"9 passed, 0 failed", b"8 passed, 1 failed", b"5 passed, 0 failed"]
     return None if ends == wanted else f"wanted: {wanted}\n  came:   {ends}"
 
 
@@ -275,7 +276,7 @@ def takes_the_library_along(repository):
     repository.write("release/libzorthewin.a", "another one")
     other = run(compare, env=repository.environment())
     ends = [answer.output.splitlines()[-1] for answer in (same, other)]
-    if ends != [b"10 passed, 0 failed", b"9 passed, 1 failed"]:
+    if ends != [b"12 passed, 0 failed", b"11 passed, 1 failed"]:
         return f"compared: {ends}"
     repository.write("crates/zorthewin_c/src/lib.rt", "// other\n")
     repository.release()

@@ -32,7 +32,7 @@ sum_of() {
 }
 
 # The crates of the released programs.
-released="vk_replay explain emit"
+released="vk_replay explain emit places"
 
 # What the released programs are built from, as one sum.
 sources_sum() {

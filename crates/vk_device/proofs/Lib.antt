@@ -26,4 +26,4 @@ mod Resting
 mod Entering
 mod WholeEntries
 mod Allocating
-mod WholeTraces
+pub mod WholeTraces

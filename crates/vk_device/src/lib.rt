@@ -7,6 +7,7 @@ mod changes;
 mod copies;
 mod device;
 mod replaying;
+mod views;
 
 pub use applied::ApplyError;
 pub use device::Device;

@@ -1,0 +1,3 @@
+mod ListedItems
+mod ListedPools
+mod WalkedEntries

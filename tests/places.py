@@ -1,0 +1,347 @@
+#!/usr/bin/env python3
+"""Tests what `places` writes, and what the tools make of it that draw it and write it in VMA's form.
+
+    PROGRAM=FILE PLACES=FILE tests/places.py [WORD]
+
+With WORD only those tests run whose names have it. Of each example and worked trace that is accepted each state has to
+fit together: ranges lie side by side in their blocks, taken or free; resources lie in their memory objects and share no
+byte; the sums are those of the heaps and pools. Where an allocation finds no room it has to find some without what
+would have to go, as `replay` says.
+"""
+
+import json
+import os
+import sys
+import tempfile
+import xml.dom.minidom as dom
+from pathlib import Path
+
+sys.dont_write_bytecode = True
+sys.path.append(str(Path(__file__).resolve().parent.parent / "tools"))
+
+from harness import PROGRAM, TOP, Test, answered, compared, difference, main, run
+from pictured_places import BAR, CHARACTER
+from worked import REFUSED, REPLAYED, STOPPED, texts_of
+
+PLACES = os.path.abspath(os.environ.get("PLACES") or TOP / "places")
+PICTURE = str(TOP / "tools" / "places_picture.py")
+VMA = str(TOP / "tools" / "vma_json.py")
+# Of a trace of more entries the last state alone is asked for.
+MOST_ENTRIES = 300
+HEAP = 4_194_304
+MADE = {"pool", "buffer", "image", "memory", "free", "destroy", "drop_pool", "pass", "end_pass"}
+
+FIRST = b'[["pool",1,"tlsf",1,4096,1],["buffer",2,1000,3,"exclusive",["pool",1]],["map",2],["unmap",2],["destroy",2]]'
+FIRST_TOLD = """\
+{"verdict":"accepted","states":[
+{"entry":0,"call":"pool","pass":null,"heaps":[{"size":4194304,"used":0},{"size":4194304,"used":0}],"objects":[],\
+"pools":[{"id":1,"algorithm":"tlsf","type":1,"block_size":4096,"block_limit":1,"used":0,"largest_free":0,"blocks":[]}],\
+"resources":[]},
+{"entry":1,"call":"buffer","pass":null,"heaps":[{"size":4194304,"used":0},{"size":4194304,"used":4096}],\
+"objects":[{"number":0,"type":1,"size":4096,"mapped":false,"pool":1,"block":0}],\
+"pools":[{"id":1,"algorithm":"tlsf","type":1,"block_size":4096,"block_limit":1,"used":1008,"largest_free":3088,\
+"blocks":[{"number":0,"object":0,"taken":[{"id":2,"offset":0,"size":1008}],"free":[{"offset":1008,"size":3088}]}]}],\
+"resources":[{"id":2,"kind":"buffer","object":0,"offset":0,"size":1000}]},
+{"entry":4,"call":"destroy","pass":null,"heaps":[{"size":4194304,"used":0},{"size":4194304,"used":0}],"objects":[],\
+"pools":[{"id":1,"algorithm":"tlsf","type":1,"block_size":4096,"block_limit":1,"used":0,"largest_free":0,"blocks":[]}],\
+"resources":[]}],
+"no_room":null}
+"""
+
+
+def example(name):
+    """The bytes of an example."""
+    return (TOP / "examples" / f"{name}.json").read_bytes()
+
+
+def told_of(trace, *arguments, statuses=(REPLAYED, STOPPED)):
+    """What is told of a trace."""
+    answer = run([PLACES, *arguments], trace)
+    if answer.status not in statuses or answer.error:
+        raise ValueError(f"one of the statuses {statuses} is wanted: {answer}")
+    return json.loads(answer.output)
+
+
+# ---- whether a state fits together
+
+
+def beside(ranges, size):
+    """Nothing where ranges lie side by side from 0 up to a size, else what doesn't."""
+    end = 0
+    for item in sorted(ranges, key=lambda r: r["offset"]):
+        if item["offset"] != end or item["size"] <= 0:
+            return f"{item} doesn't begin at {end}"
+        end += item["size"]
+    return None if end == size else f"the ranges end at {end}, and not at {size}"
+
+
+def block_fault(pool, block, state):
+    """What is wrong with a block: its ranges, or where its resources lie."""
+    found = beside(block["taken"] + block["free"], pool["block_size"])
+    if found:
+        return found
+    owner = next(item for item in state["objects"] if item["number"] == block["object"])
+    if (owner["pool"], owner["block"], owner["size"]) != (pool["id"], block["number"], pool["block_size"]):
+        return f"object {owner}"
+    spots = {(r["id"], r["offset"]) for r in state["resources"] if r["object"] == block["object"]}
+    there = {(item["id"], item["offset"]) for item in block["taken"] if not item.get("reserved")}
+    return None if spots == there else f"resources at {spots}, and taken at {there}"
+
+
+def pool_fault(pool, state):
+    """What is wrong with a pool."""
+    for block in pool["blocks"]:
+        found = block_fault(pool, block, state)
+        if found:
+            return f"pool {pool['id']}, block {block['number']}: {found}"
+    used = sum(item["size"] for block in pool["blocks"] for item in block["taken"])
+    largest = max((item["size"] for block in pool["blocks"] for item in block["free"]), default=0)
+    numbers = [block["number"] for block in pool["blocks"]]
+    if (used, largest) != (pool["used"], pool["largest_free"]) or numbers != sorted(set(numbers)):
+        return f"pool {pool['id']}: {used} used, {largest} free at once, blocks {numbers}"
+    return None if len(numbers) <= pool["block_limit"] else f"pool {pool['id']} has {len(numbers)} blocks"
+
+
+def objects_fault(state):
+    """What is wrong with memory objects, heaps, or where resources lie in objects."""
+    objects = {item["number"]: item for item in state["objects"]}
+    for heap in (0, 1):
+        used = sum(item["size"] for item in state["objects"] if (item["type"] != 0) == heap)
+        if used != state["heaps"][heap]["used"] or used > state["heaps"][heap]["size"]:
+            return f"heap {heap} has {used} bytes in use"
+    for item in state["objects"]:
+        if ("id" in item) == ("pool" in item):
+            return f"{item} is nobody's"
+    ends = {}
+    for found in sorted(state["resources"], key=lambda r: (r["object"], r["offset"])):
+        begins_at = ends.get(found["object"], 0)
+        ends[found["object"]] = found["offset"] + found["size"]
+        if found["offset"] < begins_at or ends[found["object"]] > objects[found["object"]]["size"]:
+            return f"{found} overlaps or leaves its object"
+    return None
+
+
+def state_fault(state):
+    """What is wrong with a state."""
+    moving = sorted(t["id"] for p in state["pools"] for b in p["blocks"] for t in b["taken"] if t.get("moves"))
+    held = sorted(t["id"] for p in state["pools"] for b in p["blocks"] for t in b["taken"] if t.get("reserved"))
+    if moving != held or (moving and state["pass"] is None):
+        return f"move: {moving}; reserved: {held}; pass: {state['pass']}"
+    faults = [objects_fault(state), *(pool_fault(pool, state) for pool in state["pools"])]
+    return next((fault for fault in faults if fault), None)
+
+
+def trace_fault(trace, entries):
+    """What is wrong with what is told of an accepted trace, which has an entry without room or none."""
+    ways = ("--after", str(len(entries) - 1)) if len(entries) > MOST_ENTRIES else ()
+    told = told_of(trace, *ways)
+    for state in told["states"]:
+        found = state_fault(state)
+        if found:
+            return f"entry {state['entry']}: {found}"
+    stop = told["no_room"]["entry"] if told["no_room"] else len(entries)
+    wanted = [k for k, entry in enumerate(entries[:stop]) if entry[0] in MADE]
+    if not ways and [state["entry"] for state in told["states"]] != wanted:
+        return f"states after {[state['entry'] for state in told['states']]}, wanted: {wanted}"
+    ends = run([PROGRAM], trace).output.splitlines()[-1:]
+    said = [f"stopped {stop} NO_ROOM".encode()] if told["no_room"] else []
+    return None if ends == said or not (said or b"NO_ROOM" in b"".join(ends)) else f"replay: {ends}"
+
+
+# ---- an allocation without room
+
+
+def without(entries, stop, told):
+    """The entries up to one without room, with the end of what would have to go before it."""
+    lack, last = told["no_room"], told["states"][-1]
+    pool, heap = lack.get("pool") or {}, lack.get("heap") or {}
+    ids = list(pool.get("go") or ())
+    if not ids:
+        gone = set(heap.get("go") or ())
+        ids = [r["id"] for r in last["resources"] if r["object"] in gone]
+        made = [item["id"] for item in last["objects"] if item["number"] in gone and "id" in item]
+        frees = [["free", k] for k in made if ["memory", k] in [entry[:2] for entry in entries]]
+        return [*entries[:stop], *(["destroy", k] for k in ids), *frees, entries[stop]] if gone else None
+    return [*entries[:stop], *(["destroy", k] for k in ids), entries[stop]]
+
+
+def room_fault(trace, entries):
+    """Nothing where the entry without room finds some without what would have to go."""
+    told = told_of(trace, statuses=(STOPPED,))
+    stop = told["no_room"]["entry"]
+    asked = (told["no_room"].get("pool") or {}).get("id")
+    if any(p["id"] == asked and p["algorithm"] == "linear" for p in told["states"][-1]["pools"]):
+        return None if told["no_room"]["pool"]["go"] is None else "something of a linear pool is said to go"
+    edited = without(entries, stop, told)
+    if edited is None:
+        return f"nothing is said to go: {told['no_room']}"
+    answer = run([PROGRAM], json.dumps(edited).encode())
+    return None if answer.status in (REPLAYED, REFUSED) else f"without {edited[stop:-1]}: {answer}"
+
+
+LACKS = {
+    "full_pool": {
+        "entry": 10,
+        "id": 6,
+        "pool": {"id": 1, "size": 2048, "align": 16, "free": 2048, "largest_free": 1024, "go": [3]},
+        "heap": None,
+    },
+    "full_heap": {
+        "entry": 1,
+        "id": 2,
+        "pool": None,
+        "heap": {"number": 1, "size": 16, "free": 0, "objects": 1, "go": [0]},
+    },
+}
+
+
+def pass_fault():
+    """What differs in the course of the passes of an example: what moves, and what is reserved for it."""
+    told = told_of(example("passes_with_limits"))
+    rows = []
+    for state in told["states"]:
+        if state["call"] in ("pass", "end_pass"):
+            taken = [(b["number"], t) for p in state["pools"] for b in p["blocks"] for t in b["taken"]]
+            moves = [(n, t["id"], t["offset"]) for n, t in taken if t.get("moves")]
+            kept = [(n, t["id"], t["offset"]) for n, t in taken if t.get("reserved")]
+            rows.append((state["entry"], state["pass"], moves, kept))
+    # (buffers 10 to 13 lay in block 0, and 14 to 17 in block 1; 17 stays where it is at first)
+    wanted = [
+        (16, 2, [(1, 17, 3072)], [(0, 17, 0)]),
+        (17, None, [], []),
+        (18, 2, [(1, 17, 3072)], [(0, 17, 0)]),
+        (19, None, [], []),
+        (20, 2, [(1, 15, 1024)], [(0, 15, 2048)]),
+        (21, None, [], []),
+    ]
+    return None if rows == wanted else f"found {rows}"
+
+
+# ---- what the tools make of it
+
+
+def picture_fault(trace, *arguments):
+    """Nothing where a picture is well formed and no label leaves its part."""
+    told = run([PLACES], trace).output
+    ran = run([PICTURE, *arguments], told)
+    if ran.status != 0 or ran.error:
+        return str(ran)
+    picture = dom.parseString(ran.output)
+    rects = [
+        tuple(float(rect.getAttribute(key)) for key in ("x", "y", "width"))
+        for rect in picture.getElementsByTagName("rect")
+        if rect.getAttribute("height") == str(BAR)
+    ]
+    for text in picture.getElementsByTagName("text"):
+        if "middle" in text.getAttribute("class"):
+            x, y = float(text.getAttribute("x")), float(text.getAttribute("y"))
+            half = len(text.firstChild.data) * CHARACTER / 2
+            if not any(left <= x - half and x + half <= left + wide and top < y < top + BAR for left, top, wide in rects):
+                return f"the label {text.firstChild.data} leaves its part"
+    return None
+
+
+def page_fault():
+    """What differs in the picture of the manual."""
+    ran = run([PICTURE], run([PLACES], example("defragmented_pool")).output)
+    same = ran.output == (TOP / "docs" / "defragmented_pool.svg").read_bytes()
+    return None if same else "docs/defragmented_pool.svg is another picture"
+
+
+def vma_fault():
+    """What differs in VMA's form of an example."""
+    told = run([PLACES], example("full_pool")).output
+    ran = run([VMA, "--entry", "8"], told)
+    if ran.status != 0 or ran.error:
+        return str(ran)
+    form = json.loads(ran.output)
+    block = form["CustomPools"]["Type 1"][0]["Blocks"]["0"]
+    found = [(item["Type"], item["Offset"], item["Size"]) for item in block["Suballocations"]]
+    wanted = [("FREE", 0, 1024), ("BUFFER", 1024, 1024), ("FREE", 2048, 1024), ("BUFFER", 3072, 1024)]
+    if found != wanted or (block["TotalBytes"], block["UnusedBytes"], block["MapRefCount"]) != (4096, 2048, 1):
+        return f"found {block}"
+    total = {"BlockCount": 1, "BlockBytes": 4096, "AllocationCount": 2, "AllocationBytes": 2048, "UnusedRangeCount": 2}
+    same = {key: form["Total"][key] for key in total} == total
+    return None if same and form["MemoryInfo"]["Heap 1"]["Size"] == HEAP else f"found {form['Total']}"
+
+
+# ---- the tests
+
+
+def traces():
+    """The examples and the worked traces, with their names."""
+    for path in sorted((TOP / "examples").glob("*.json")):
+        if not path.name.endswith((".explained.json", ".repaired.json")):
+            yield f"example {path.stem}", path.read_bytes()
+    for path in sorted((TOP / "tests" / "worked").glob("*.json")):
+        for row in json.loads(path.read_text(encoding="utf-8")):
+            if row.get("status", REPLAYED) in (REPLAYED, STOPPED) and not row.get("arguments"):
+                for text in texts_of(row):
+                    yield f"{path.stem}: {row['name']}", text
+
+
+def accepted():
+    """Those that are accepted, with their entries."""
+    for name, text in traces():
+        if b"refused" not in run([PROGRAM], text).output:
+            yield name, text, json.loads(text)
+
+
+def unwritable():
+    """What differs where the output is full."""
+    with open("/dev/full", "wb") as full:
+        answer = run([PLACES], FIRST, stdout=full)
+    return difference(answered("", 5, "write failed after 0 bytes\n"), answer)
+
+
+def program_tests():
+    """The tests of the program alone."""
+    yield compared("places: a small trace, word for word", answered(FIRST_TOLD), [PLACES], FIRST)
+    refused = '{"verdict":"refused","at":"5","rule":"HAZARD_RAW"}\n'
+    yield compared("places: a refused trace", answered(refused, REFUSED), [PLACES], example("missing_dependency"))
+    yield compared("places: no trace", answered("", 2, "no trace\n"), [PLACES], b"[1]")
+    empty = '{"verdict":"accepted","states":[],\n"no_room":null}\n'
+    yield compared("places: an empty trace", answered(empty), [PLACES], b"[]")
+    yield Test("places: a full output", unwritable)
+    yield Test("places: --help", lambda: None if b"Usage: places" in run([PLACES, "--help"]).error else "no help")
+    for words in (["--heap0", "1"], ["--after", "-1"], ["--after", "x"], ["--order", "first"], ["more"]):
+        yield Test(f"places: {' '.join(words)}", lambda w=words: None if run([PLACES, *w], FIRST).status == 6 else "taken")
+    large = ["--heap0", "67108864", "--heap1", "67108864"]
+    yield Test("places: larger heaps", lambda: None if told_of(example("full_heap"), *large)["no_room"] is None else "no room")
+    after = ["--after", "2"]
+    yield Test("places: after one entry", lambda: None if [s["entry"] for s in told_of(FIRST, *after)["states"]] == [2] else "other states")
+    mapped = lambda: None if told_of(FIRST, *after)["states"][0]["objects"][0]["mapped"] else "not mapped"
+    yield Test("places: a mapped block", mapped)
+    for name, lack in LACKS.items():
+        judge = lambda n=name, w=lack: None if told_of(example(n))["no_room"] == w else str(told_of(example(n))["no_room"])
+        yield Test(f"places: {name}", judge)
+    yield Test("places: the passes of a defragmentation", pass_fault)
+
+
+def tool_tests():
+    """The tests of the tools."""
+    for name in ("full_pool", "full_heap", "passes_with_limits", "every_entry", "double_stack", "ring_of_slots"):
+        yield Test(f"picture: {name}", lambda n=name: picture_fault(example(n)))
+    yield Test("picture: --entries", lambda: picture_fault(example("passes_with_limits"), "--entries", "7,15,23"))
+    yield Test("picture: that of the manual", page_fault)
+    refused = '{"verdict":"refused","at":"5","rule":"HAZARD_RAW"}'.encode()
+    for tool in (PICTURE, VMA):
+        name = Path(tool).stem
+        yield Test(f"{name}: a refused trace", lambda t=tool: None if run([t], refused).status == 2 else "taken")
+        yield Test(f"{name}: no JSON", lambda t=tool: None if run([t], b"[").status == 2 else "taken")
+        yield Test(f"{name}: no such file", lambda t=tool: None if run([t, "/nonexistent"]).status == 5 else "taken")
+    yield Test("vma_json: a pool with free ranges", vma_fault)
+
+
+def all_tests():
+    """The tests."""
+    yield from program_tests()
+    for name, text, entries in accepted():
+        yield Test(f"states: {name}", lambda t=text, e=entries: trace_fault(t, e))
+        if b"NO_ROOM" in run([PROGRAM], text).output and len(entries) <= MOST_ENTRIES:
+            yield Test(f"room: {name}", lambda t=text, e=entries: room_fault(t, e))
+    yield from tool_tests()
+
+
+if __name__ == "__main__":
+    sys.exit(main(all_tests(), (PROGRAM, PLACES)))
