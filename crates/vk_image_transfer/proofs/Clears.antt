@@ -1,10 +1,8 @@
 -- The pieces of a clear, and the bytes of the image after one.
-use Rattle.std.proofs.Common.{◌≡◌, ℕ, zero, suc, ◌+◌, ◌*◌, ◌/◌, ◌%◌, ◌<◌, ◌≤◌, List, [], ◌∷◌, ◌++◌, map, length, false, eqb, eq-eqb, refl, ap, sym, subst, ◌∙◌, arith, zero-add, slice_index, Option, Some, None}
+use Rattle.std.proofs.Common.{◌≡◌, ℕ, ◌+◌, ◌*◌, ◌/◌, ◌%◌, ◌<◌, ◌≤◌, List, [], ◌∷◌, ◌++◌, map, length, false, eqb, eq-eqb, refl, ap, sym, subst, ◌∙◌, arith, zero-add, slice_index, Option, Some, None}
 use Rattle.std.specs.List.{flat_map}
 use Rattle.std.proofs.lemmas.List.{map-append}
 use Rattle.vk_model.specs.declared.command.SubresourceRange.{SubresourceRange}
-use Rattle.vk_model.specs.declared.layout.Format.{Format}
-use Rattle.vk_model.specs.declared.layout.Format.TheVariants as format
 use Rattle.vk_model.specs.declared.resource.ImageInfo.{ImageInfo}
 use Rattle.vk_model.specs.Basics.{below, grid}
 use Rattle.vk_model.specs.Trace.Image.{texel, level_width, level_height}

@@ -1,10 +1,10 @@
 -- Texels that have been written make the byte writes of a row.
-use Rattle.std.proofs.Common.{◌≡◌, inl, inr, ℕ, zero, suc, ◌+◌, ◌*◌, ◌/◌, ◌%◌, ◌<◌, ◌≤◌, List, map, Bool, true, false, cond, eqb, eq-eqb, refl, ap, sym, ◌∙◌, arith, slice_index, Option, Some, None}
+use Rattle.std.proofs.Common.{◌≡◌, inl, inr, ℕ, zero, suc, ◌+◌, ◌*◌, ◌/◌, ◌%◌, ◌<◌, ◌≤◌, List, map, Bool, true, false, cond, eqb, refl, ap, sym, ◌∙◌, arith, slice_index, Option, Some, None}
 use Rattle.std.specs.List.{find, range_with_len}
-use Rattle.std.proofs.lemmas.Bool.{eqb-true, and_from, cases_lt}
+use Rattle.std.proofs.lemmas.Bool.{eqb-true, cases_lt}
 use Rattle.std.proofs.lemmas.Nat.{div_below, mod_below, div-mul-add, mod-mul-add, mul-add-lt}
 use Rattle.vk_model.specs.Basics.{below}
-use Rattle.vk_model.specs.World.Bytes.{Byte, in_buffer, in_image, same_byte, resource_at}
+use Rattle.vk_model.specs.World.Bytes.{Byte, same_byte, resource_at}
 use Rattle.vk_model.specs.World.ByteWrites.{Source, ByteWrite, byte_write}
 use Rattle.vk_model.specs.Run.CachedRuns.{write_to}
 use Rattle.vk_transfer.specs.Ran.{given, stored, HaveRun}

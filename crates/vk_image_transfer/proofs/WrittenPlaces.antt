@@ -1,7 +1,7 @@
 -- Rows of texels that byte writes are of, by the places of their bytes.
 use Rattle.std.proofs.Common.{◌≡◌, ℕ, ◌+◌, ◌-◌, ◌*◌, ◌/◌, ◌%◌, ◌<◌, ◌≤◌, List, [], ◌∷◌, Bool, true, false, ◌||◌, ◌&&◌, ◌==◌, eq-eqb, refl, ap, sym, subst, ◌∙◌, arith, zero-add, Option, Some, None}
 use Rattle.std.specs.Prelude.{Contains, is_some}
-use Rattle.std.specs.List.{list_any, range_with_len}
+use Rattle.std.specs.List.{range_with_len}
 use Rattle.std.proofs.lemmas.Bool.{and_parts, eqb-true}
 use Rattle.std.proofs.lemmas.Nat.{div_below, mod_below, div-mul-add, mod-mul-add, mul-add-lt}
 use Rattle.vk_model.specs.declared.command.BufferImageCopy.{BufferImageCopy}
@@ -20,10 +20,8 @@ use Rattle.vk_model.proofs.World.BytePlaces.{byte_same, byte_itself, texel_some}
 use Rattle.vk_transfer.specs.declared.stretches.Stretch.{Stretch}
 use Rattle.vk_transfer.specs.Stretches.{lies_in, is_byte_in}
 use Rattle.vk_image_transfer.specs.Held.{Form, BufferOf, ImageOf, place_of}
-use Rattle.vk_image_transfer.specs.Inner.Lines.{line_place, LineApart}
 use Rattle.vk_image_transfer.specs.Rows.{RegionFits, image_row, buffer_row}
 use Rattle.vk_image_transfer.specs.Stretches.{is_among, row_left, WritesAt}
-use Rattle.vk_image_transfer.specs.declared.lines.Line.{Line}
 use Rattle.vk_image_transfer.proofs.Running.{row_writes, found_in, none_in, PlacesApart}
 use Rattle.vk_image_transfer.proofs.Places.{image_byte_at, image_apart, buffer_parts, buffer_byte_at, buffer_apart}
 use Rattle.vk_image_transfer.proofs.ImageRows.{RowThere, texel_there, row_apart}

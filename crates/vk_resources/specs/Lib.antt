@@ -8,4 +8,5 @@ pub mod Passes
 pub mod PassSteps
 pub mod Done
 pub mod Stretches
+pub mod Ranges
 pub mod Inner

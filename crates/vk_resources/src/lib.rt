@@ -9,6 +9,7 @@ mod images;
 mod passes;
 mod pieces;
 mod pools;
+mod ranges;
 mod resources;
 mod rows;
 mod stretches;

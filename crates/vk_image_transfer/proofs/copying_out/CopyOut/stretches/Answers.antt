@@ -1,10 +1,10 @@
-use Rattle.std.proofs.Common.{◌≡◌, ◌+◌, ◌-◌, ◌/◌, ◌%◌, ℕ, ap, sym, subst, ◌∙◌, arith}
+use Rattle.std.proofs.Common.{◌≡◌, ◌-◌, ◌/◌, ◌%◌, ℕ, ap, sym, subst, ◌∙◌, arith}
 use Rattle.vk_model.specs.declared.resource.ImageInfo.{ImageInfo}
 use Rattle.vk_model.specs.Trace.Image.{texel, level_width}
 use Rattle.vk_model.specs.World.ByteWrites.{From, image_texel}
 use Rattle.vk_model.proofs.World.BytePlaces.{texel_some}
 use Rattle.vk_image_transfer.specs.Inner.Lines.{line_place}
-use Rattle.vk_image_transfer.specs.Rows.{RegionFits, buffer_row}
+use Rattle.vk_image_transfer.specs.Rows.{RegionFits}
 use Rattle.vk_image_transfer.proofs.BufferRows.{row_within, buffer_fits, buffer_as}
 use Rattle.vk_image_transfer.proofs.Copies.{out_is}
 use Rattle.vk_image_transfer.proofs.PieceRows.{layer_below, row_below}

@@ -1,4 +1,4 @@
-use Rattle.std.proofs.Common.{◌≡◌, ◌-◌, ◌+◌, ◌*◌, ℕ, List, ap, sym, subst, arith}
+use Rattle.std.proofs.Common.{◌-◌, ◌+◌, ◌*◌, ℕ, List, ap, sym, subst, arith}
 use Rattle.vk_transfer.specs.declared.stretches.Stretch.{Stretch}
 use Rattle.vk_image_transfer.specs.Inner.Lines.{line_place, line_texel}
 use Rattle.vk_image_transfer.specs.Stretches.{Takes, row_left}
