@@ -19,4 +19,4 @@ pub use running::{Listing, Told, listing_of, run};
 pub use states::{
     HeapUse, Hold, LiveBlock, LiveObject, LivePool, LiveResource, Owner, State, Taken,
 };
-pub use walking::{Walk, walk};
+pub use walking::{Walk, walk_of};

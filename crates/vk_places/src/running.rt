@@ -1,7 +1,7 @@
 ghost use Rattle.std.specs.Prelude.{◌≡◌, false};
 
 use crate::texts::{refusal_text, walk_text};
-use crate::walking::walk;
+use crate::walking::walk_of;
 use std::alloc::Global;
 use std::io::{Read, Write};
 use vk_model::Config;
@@ -73,7 +73,7 @@ pub fn listing_of(
             text: refusal_text(alloc, at, rule)?,
         }),
         Verdict::Accepted(accepted) => {
-            let walked = walk(alloc, &accepted, config, after)?;
+            let walked = walk_of(alloc, &accepted, config, after)?;
             Ok(Listing {
                 told: match walked.stop {
                     Some(_) => Told::Stopped,

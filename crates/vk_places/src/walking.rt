@@ -69,7 +69,7 @@ fn push_state(
 /// Where everything lies after the entries of an accepted trace that change it, or after one entry alone,
 /// on a device with heaps of these sizes, up to the first entry that finds no room. The only error is want
 /// of memory.
-pub fn walk(
+pub fn walk_of(
     alloc: Global,
     accepted: &Accepted<'_>,
     config: Config,
