@@ -1,10 +1,10 @@
 #!/usr/bin/env python3
 """Tests the commands that the pages show with what they write: blocks of code with a line `$ COMMAND`.
 
-    PROGRAM=FILE EXPLAIN=FILE EMIT=FILE tests/shown.py
+    PROGRAM=FILE EXPLAIN=FILE EMIT=FILE PLACES=FILE tests/shown.py
 
-Each command runs at the top of a copy of the repository whose ./replay, ./explain and ./emit run these programs, and
-what it writes to standard output and standard error is compared with the lines below it, up to the next command or the
+Each command runs at the top of a copy of the repository whose ./replay, ./explain, ./emit and ./places run these
+programs, and what it writes to standard output and standard error is compared with the lines below it, up to the next command or the
 end of the block.
 """
 
@@ -19,6 +19,7 @@ sys.dont_write_bytecode = True
 from harness import EXPLAIN, PROGRAM, TOP, Test, difference, main, run
 
 EMIT = os.path.abspath(os.environ.get("EMIT") or TOP / "emit")
+PLACES = os.path.abspath(os.environ.get("PLACES") or TOP / "places")
 BLOCK = re.compile(r"^```\w*\n(.*?)^```$", re.M | re.S)
 ROOM = tempfile.TemporaryDirectory()
 
@@ -40,9 +41,9 @@ def copy():
     """The repository, by links, with scripts that run the programs that are tested."""
     top = Path(ROOM.name)
     for path in TOP.iterdir():
-        if path.name not in ("replay", "explain", "emit", "out", ".git"):
+        if path.name not in ("replay", "explain", "emit", "places", "out", ".git"):
             (top / path.name).symlink_to(path)
-    for name, program in (("replay", PROGRAM), ("explain", EXPLAIN), ("emit", EMIT)):
+    for name, program in (("replay", PROGRAM), ("explain", EXPLAIN), ("emit", EMIT), ("places", PLACES)):
         (top / name).write_text(f'#!/bin/sh\nexec "{program}" "$@"\n')
         (top / name).chmod(0o755)
     return top
@@ -63,4 +64,4 @@ def all_tests():
 
 
 if __name__ == "__main__":
-    sys.exit(main(all_tests(), (PROGRAM, EXPLAIN, EMIT)))
+    sys.exit(main(all_tests(), (PROGRAM, EXPLAIN, EMIT, PLACES)))
