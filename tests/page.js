@@ -1,7 +1,8 @@
 "use strict";
 // What the module of a page answers to traces. Standard input is an object of JSON: the page's file (page), the
-// script over its module (script), and the traces (traces). Standard output is a list of JSON: of each trace what
-// explain says (text, json, repaired), what replay answers (first, last, seed), and what the page makes of it (shown).
+// script over its module (script), the traces (traces), and inputs in hex (inputs). Standard output is a list of JSON:
+// of each trace what explain says (text, json, repaired), what replay answers (first, last, seed), and what the page
+// makes of it (shown); and then of each input what explain says.
 
 const { readFileSync } = require("fs");
 
@@ -17,7 +18,8 @@ async function main() {
     const [mended, shown] = [repaired(library, text), judged(library, text)];
     return { text: said, json: object, repaired: mended, first, last, seed, shown };
   });
-  process.stdout.write(JSON.stringify(answers));
+  const said = asked.inputs.map((hex) => library.explain(Buffer.from(hex, "hex")));
+  process.stdout.write(JSON.stringify([...answers, ...said]));
 }
 
 main();

@@ -27,23 +27,36 @@ from harness import EXPLAIN, PROGRAM, TOP, Skipped, Test, main, run
 sys.path += [str(TOP / "tools"), str(TOP / "tools" / "page")]
 
 from build import assembled, examples
-from module import found_module
+from module import Failed, found_module, retargeted
 from pictured import FIT, Drawing
 
 ROOM = tempfile.TemporaryDirectory()
 PAGE = Path(ROOM.name) / "index.html"
 # So many seconds all examples under node, or the browser, may take.
 PATIENCE = 300
+# Texts of letters of one to four bytes, and what is no UTF-8: too short, too long, half of a pair, above the last letter,
+# cut off. Each is tried behind fronts of several lengths, as texts are checked in blocks of 64 bytes.
+LETTERS = ("a", "\u00e9", "\u20ac", "\U0001f600", "\u07ff\u0800\uffff\U00010000\U0010ffff")
+NO_UTF8 = ("c080", "80", "e08080", "eda080", "f4908080", "f0808080", "ff", "c3", "e282", "f09f98", "f888808080")
+FRONTS = (0, 1, 30, 58, 61, 62, 63, 64, 127, 130)
 # Examples that a browser shows: refused with repairs, replayed, stopped, and no trace.
 SHOWN = ("missing_dependency", "first_upload", "full_heap", "overlapping_fills", "image_mips", "unfinished")
 
 
+def inputs():
+    """Inputs with letters beyond ASCII, and with bytes that are no letters."""
+    for front in FRONTS:
+        for letters in (*(each.encode() for each in LETTERS), *map(bytes.fromhex, NO_UTF8)):
+            yield b'["' + b"x" * front + letters + b'"]'
+
+
 def node_answers(traces):
-    """What the module answers to the traces."""
+    """What the module answers to the traces, and then to the inputs."""
     version = run(["node", "--version"]).output.decode().strip() if shutil.which("node") else ""
     if not version or int(re.match(r"v(\d+)", version)[1]) < 18:
         raise Skipped("this needs node, 18 or later")
     asked = {"page": str(PAGE), "script": str(TOP / "docs" / "page" / "library.js"), "traces": traces}
+    asked["inputs"] = [each.hex() for each in inputs()]
     ran = run(["node", str(TOP / "tests" / "page.js")], json.dumps(asked).encode(), seconds=PATIENCE)
     if ran.status != 0:
         raise OSError(f"node: {ran}")
@@ -56,8 +69,8 @@ def unlike(what, wanted, found):
 
 
 def of_program(command, trace):
-    """The status and the text of a program."""
-    ran = run(command, trace.encode())
+    """The status and the text of a program, to a text or to bytes."""
+    ran = run(command, trace if isinstance(trace, bytes) else trace.encode())
     return {"status": ran.status, "text": ran.output.decode()}
 
 
@@ -83,14 +96,31 @@ def judge_trace(trace, found):
 
 
 def judge_node():
-    """All examples under node."""
+    """All examples under node, and the inputs."""
     traces = [trace for _, _, _, trace in examples()]
-    found = node_answers(traces)
+    answers = node_answers(traces)
+    found, said = answers[: len(traces)], answers[len(traces) :]
     for (_, name, _, trace), each in zip(examples(), found):
         differs = judge_trace(trace, each)
         if differs:
             return f"{name}: {differs}"
-    return None if len(found) == len(traces) > 100 else f"{len(found)} answers"
+    for each, answer in zip(inputs(), said):
+        differs = unlike(each.hex(), of_program([EXPLAIN], each), answer)
+        if differs:
+            return differs
+    return None if len(found) == len(traces) > 100 and len(said) == len([*inputs()]) else f"{len(answers)} answers"
+
+
+def judge_foreign():
+    """Of an instruction of x86-64 that WebAssembly lacks a function is called, or it is named where there is none."""
+    shuffle = "<16 x i8> @llvm.x86.ssse3.pshuf.b.128(<16 x i8> %a, <16 x i8> %b)\n"
+    text = "".join(retargeted([f"%c = call {shuffle}", f"declare {shuffle}"]))
+    if "llvm.x86" in text or text.count('@"stand-in for x86.ssse3.pshuf.b.128"(') != 2 or text.count("insertelement") != 16:
+        return text
+    try:
+        return "".join(retargeted(["%c = call i32 @llvm.x86.sse42.crc32.32.8(i32 %a, i8 %b)\n"]))
+    except Failed as why:
+        return None if "x86.sse42.crc32.32.8" in str(why) else str(why)
 
 
 def seen_in_browser(names):
@@ -181,9 +211,10 @@ def all_tests():
         Test("page: some examples in a browser", judge_browser),
     ]
     if module is None:
-        return [test._replace(judge=skip) for test in tests]
-    PAGE.write_text(assembled(Path(module).read_bytes()))
-    return tests
+        tests = [test._replace(judge=skip) for test in tests]
+    else:
+        PAGE.write_text(assembled(Path(module).read_bytes()))
+    return [*tests, Test("page: instructions that WebAssembly lacks", judge_foreign)]
 
 
 if __name__ == "__main__":

@@ -22,6 +22,33 @@ FEATURES = ("bulk-memory", "sign-ext", "mutable-globals", "nontrapping-float-to-
 # (what a module for x86-64 says of its functions, and WebAssembly doesn't know)
 FOREIGN = re.compile(r'"(?:probe-stack|stack-probe-size|target-cpu|frame-pointer)"="[^"]*" ?')
 STACK = 8 << 20
+# Libraries call instructions of x86-64 by name: simdutf8 a shuffle of bytes, to check UTF-8. WebAssembly's backend knows
+# none of them, and ends with "Do not know how to split the result of this operator" at the function that the call was
+# inlined into. So a function here does what the instruction does: its type, its arguments and its body. It is always
+# inlined, since a vector would go in and out of it byte by byte.
+FOREIGN_CALL = re.compile(r"@llvm\.(x86\.[\w.]+)")
+STAND_INS = {
+    # Byte i is the byte of %from at the low four bits of byte i of %at; where the highest bit of that is set, it is 0.
+    "x86.ssse3.pshuf.b.128": (
+        "<16 x i8>",
+        "<16 x i8> %from, <16 x i8> %at",
+        [
+            "%low = and <16 x i8> %at, splat (i8 15)",
+            *(
+                line
+                for i in range(16)
+                for line in (
+                    f"%low{i} = extractelement <16 x i8> %low, i32 {i}",
+                    f"%byte{i} = extractelement <16 x i8> %from, i8 %low{i}",
+                    f"%to{i + 1} = insertelement <16 x i8> {f'%to{i}' if i else 'poison'}, i8 %byte{i}, i32 {i}",
+                )
+            ),
+            "%none = icmp slt <16 x i8> %at, zeroinitializer",
+            "%to = select <16 x i1> %none, <16 x i8> zeroinitializer, <16 x i8> %to16",
+            "ret <16 x i8> %to",
+        ],
+    ),
+}
 # Keeps the module that the toolchain hands to its clang, and compiles nothing.
 KEEPER = """#!/bin/sh
 for word; do
@@ -101,17 +128,35 @@ def kept_module(kit, room):
     return kept
 
 
+def stand_in(name):
+    """What the function is called that does what an instruction of x86-64 does."""
+    if name not in STAND_INS:
+        raise Failed(f"a library calls {name}, which WebAssembly doesn't have: STAND_INS has to say what it does")
+    return f'@"stand-in for {name}"'
+
+
 def retargeted(lines):
     """The text of a module for x86-64 as that of one for WebAssembly."""
+    called = set()
     for line in lines:
+        foreign = FOREIGN_CALL.findall(line)
+        called.update(foreign)
         if line.startswith("target datalayout"):
             yield f'target datalayout = "{LAYOUT}"\n'
         elif line.startswith("target triple"):
             yield 'target triple = "wasm64-unknown-unknown"\n'
         elif line.startswith("attributes"):
             yield re.sub(r"\{\s*\}", "{ nounwind }", FOREIGN.sub("", line))
-        else:
+        elif not foreign:
             yield line
+        elif not line.startswith("declare"):
+            yield FOREIGN_CALL.sub(lambda found: stand_in(found[1]), line)
+    for name in sorted(called):
+        called_here = stand_in(name)
+        kind, arguments, body = STAND_INS[name]
+        yield f"\ndefine internal {kind} {called_here}({arguments}) alwaysinline nounwind {{\n"
+        yield from (f"  {line}\n" for line in body)
+        yield "}\n"
 
 
 def make_module(to):
