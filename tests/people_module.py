@@ -128,6 +128,8 @@ def judge_answers():
 T = zorthewin.Trace()
 BUFFER, IMAGE, SEMAPHORE = T.buffer(64), T.image("R8_UINT", 8, 8, levels=2), T.semaphore()
 BATCH = T.batch()
+OTHER = zorthewin.Trace()
+OTHER_BUFFER, OTHER_IMAGE, OTHER_SEMAPHORE = OTHER.buffer(64), OTHER.image("R8_UINT", 8, 8), OTHER.semaphore()
 WRONG = {
     "a stage": (lambda: BATCH.barrier(src="COPPY"), "'COPPY': not one of NONE, TRANSFER, HOST, ALL_COMMANDS"),
     "an access": (lambda: BATCH.barrier(dst="HOST:HOST"), "'HOST': not one of NONE, TRANSFER_READ, TRANSFER_WRITE"),
@@ -157,6 +159,38 @@ WRONG = {
     "text for bytes": (lambda: T.write(BUFFER, "00"), "write: expected bytes; found '00'"),
     "an offset in memory of its own": (lambda: T.buffer(1, offset=16), "an offset is one in a memory object"),
     "an object of another trace": (lambda: zorthewin.Trace().map(BUFFER), "is of another trace"),
+    "a buffer of another trace": (lambda: BATCH.fill(OTHER_BUFFER, 0), "fill: buffer 1 is of another trace"),
+    "an element of another trace": (
+        lambda: BATCH.transition(OTHER_IMAGE, "UNDEFINED", "GENERAL"),
+        "barrier: images: image 2 is of another trace",
+    ),
+    "a signal of another trace": (lambda: T.batch(signals=[(OTHER_SEMAPHORE, 1)]), "semaphore 3 is of another trace"),
+    "a signal without its list": (lambda: T.batch(signals=SEMAPHORE), "signals: expected a list of (semaphore, value)"),
+    "an element of an image for one of a buffer": (
+        lambda: BATCH.barrier(buffers=[zorthewin.on_image(IMAGE, "UNDEFINED", "GENERAL")]),
+        f"barrier: buffers: expected a buffer; found {IMAGE}",
+    ),
+    "an element without its list": (
+        lambda: BATCH.barrier(buffers=zorthewin.on_buffer(BUFFER)),
+        "barrier: buffers: expected a list of what on_buffer answers; found one alone",
+    ),
+    "an element of numbers": (
+        lambda: BATCH.barrier(images=[[0] * 11]),
+        "barrier: images: expected a list of what on_image answers; found [0, 0",
+    ),
+    "a number for a region": (lambda: BATCH.copy(BUFFER, BUFFER, 16), "copy: region: expected 3 numbers"),
+    "a number for regions": (lambda: BATCH.copy_in(BUFFER, IMAGE, regions=16), "expected a list of regions; found 16"),
+    "a region of images for regions": (
+        lambda: BATCH.copy_image(IMAGE, IMAGE, regions=(0,) * 11),
+        "copy_image: region: expected 11 numbers",
+    ),
+    "a resource without its list": (
+        lambda: T.end_pass(None, stay=BUFFER),
+        f"end_pass: stay: expected a list of resources; found {BUFFER}",
+    ),
+    "a read from past the end": (lambda: T.read(BUFFER, offset=65), f"offset: 65 is past the 64 bytes of {BUFFER}"),
+    "an order": (lambda: T.replay(PROGRAM, order="middle"), "'middle': not one of first, last, seed"),
+    "a seed": (lambda: T.replay(PROGRAM, seed=-1), "replay: seed: -1 is not from 0 to 18446744073709551615"),
 }
 
 

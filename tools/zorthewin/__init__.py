@@ -19,7 +19,8 @@ Vulkan's prefixes. A name, a mask, a count or a kind of object that is wrong is 
 what there is. Ids are given by the trace, from 1 on. docs/FORMAT.md says what each form means.
 
 `judge` and `replay` run the programs ./explain and ./replay at the top, or those that the environment's EXPLAIN and
-PROGRAM name; where its ZORTHEWIN_LIBRARY names the C library libzorthewin.so they call that. It needs Python 3.8 or later, and its standard library alone.
+PROGRAM name; where its ZORTHEWIN_LIBRARY names the C library libzorthewin.so they call that. It needs Python 3.8 or
+later, and its standard library alone.
 """
 
 import sys

@@ -6,7 +6,10 @@ import subprocess
 from pathlib import Path
 from typing import List, NamedTuple, Optional, Tuple
 
-from .library import JSON, TEXT, library
+import trace_forms as forms
+
+from .library import JSON, ORDERS, TEXT, library
+from .names import Wrong, number
 
 TOP = Path(__file__).resolve().parent.parent.parent
 # The exit statuses of `replay`.
@@ -90,6 +93,9 @@ def judged(trace, program):
 
 def replayed(trace, program, order, seed):
     """What `replay` answers to a trace."""
+    if order not in ORDERS:
+        raise Wrong(f"replay: order: {order!r}: not one of {', '.join(ORDERS)}")
+    number(seed, forms.LARGE, "replay: seed")
     loaded = None if program else named_library()
     if loaded:
         status, said = answered(loaded.replay, trace.json(), order, seed)

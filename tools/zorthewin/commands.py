@@ -5,7 +5,7 @@ from typing import List
 
 import trace_forms as forms
 
-from .names import IGNORED, Wrong, hexed, large, length, number, scope, span
+from .names import IGNORED, Wrong, hexed, large, length, listed, number, scope, span
 from .objects import Buffer, Event, Image, Semaphore, ids
 
 
@@ -17,16 +17,16 @@ def site():
     return f"{frame.f_code.co_filename}:{frame.f_lineno}"
 
 
-def staged(pairs, what):
+def staged(pairs, what, trace):
     """Waits or signals of a batch: a semaphore, a value and stages, ALL_COMMANDS where they are left out."""
     rows = []
-    for pair in pairs:
+    for pair in listed(pairs, what, "(semaphore, value) or (semaphore, value, stages)"):
         if not isinstance(pair, tuple) or len(pair) not in (2, 3):
             raise Wrong(f"{what}: expected (semaphore, value) or (semaphore, value, stages); found {pair!r}")
         stages = pair[2] if len(pair) == 3 else "ALL_COMMANDS"
         rows.append(
             [
-                ids(pair[0], Semaphore, what),
+                ids(pair[0], Semaphore, what, trace),
                 large(pair[1], f"{what}: value"),
                 number(stages, forms.STAGE_MASK, f"{what}: stages"),
             ]
@@ -39,7 +39,7 @@ class Batch:
 
     def __init__(self, submit, waits, signals):
         self.submit = submit
-        self.rows = [staged(waits, "waits"), [], staged(signals, "signals")]
+        self.rows = [staged(waits, "waits", submit.trace), [], staged(signals, "signals", submit.trace)]
         self.sites = []
 
     def __enter__(self):
@@ -55,11 +55,15 @@ class Batch:
         self.rows[1].append(list(members))
         self.sites.append(site())
 
+    def own(self, value, kind, what):
+        """The id of an object of the batch's trace."""
+        return ids(value, kind, what, self.submit.trace)
+
     def fill(self, buffer, word_, offset=0, size="whole"):
         """Fills bytes of a buffer with a word of 32 bits, again and again."""
         self.add(
             "fill",
-            ids(buffer, Buffer, "fill"),
+            self.own(buffer, Buffer, "fill"),
             large(offset, "fill: offset"),
             length(size, "fill: size"),
             number(word_, forms.SMALL, "fill: word"),
@@ -67,12 +71,12 @@ class Batch:
 
     def update(self, buffer, data, offset=0):
         """Writes bytes to a buffer."""
-        self.add("update", ids(buffer, Buffer, "update"), large(offset, "update: offset"), hexed(data, "update"))
+        self.add("update", self.own(buffer, Buffer, "update"), large(offset, "update: offset"), hexed(data, "update"))
 
     def copy(self, source, destination, *regions):
         """Copies regions (source offset, destination offset, size) between buffers; all of the smaller one where
         there is none."""
-        row = ["copy", ids(source, Buffer, "copy: source"), ids(destination, Buffer, "copy: destination")]
+        row = ["copy", self.own(source, Buffer, "copy: source"), self.own(destination, Buffer, "copy: destination")]
         regions = regions or ((0, 0, min(source.size, destination.size)),)
         self.add(
             *row,
@@ -84,7 +88,7 @@ class Batch:
 
     def clear(self, image, color, layout="TRANSFER_DST_OPTIMAL", levels=None, layers=None):
         """Clears levels and layers of an image to four numbers."""
-        row = ["clear", ids(image, Image, "clear"), number(layout, forms.LAYOUT, "clear: layout")]
+        row = ["clear", self.own(image, Image, "clear"), number(layout, forms.LAYOUT, "clear: layout")]
         self.add(
             *row,
             counted(color, ("red", "green", "blue", "alpha"), "clear: color", forms.SMALL),
@@ -95,7 +99,7 @@ class Batch:
         self, buffer, image, layout="TRANSFER_DST_OPTIMAL", levels=None, layers=None, offset=0, row_bytes=1, regions=None
     ):
         """Copies levels of an image out of a buffer, where they lie as `Image.packed` says; or regions of ten numbers."""
-        row = ["copy_in", ids(buffer, Buffer, "copy_in: buffer"), ids(image, Image, "copy_in: image")]
+        row = ["copy_in", self.own(buffer, Buffer, "copy_in: buffer"), self.own(image, Image, "copy_in: image")]
         row += [number(layout, forms.LAYOUT, "copy_in: layout")]
         self.add(*row, buffer_regions("copy_in", regions) or level_regions(image, levels, layers, offset, row_bytes))
 
@@ -103,8 +107,8 @@ class Batch:
         self, image, buffer, layout="TRANSFER_SRC_OPTIMAL", levels=None, layers=None, offset=0, row_bytes=1, regions=None
     ):
         """Copies levels of an image to a buffer, where they lie as `Image.packed` says; or regions of ten numbers."""
-        row = ["copy_out", ids(image, Image, "copy_out: image"), number(layout, forms.LAYOUT, "copy_out: layout")]
-        row += [ids(buffer, Buffer, "copy_out: buffer")]
+        row = ["copy_out", self.own(image, Image, "copy_out: image"), number(layout, forms.LAYOUT, "copy_out: layout")]
+        row += [self.own(buffer, Buffer, "copy_out: buffer")]
         self.add(*row, buffer_regions("copy_out", regions) or level_regions(image, levels, layers, offset, row_bytes))
 
     def copy_image(
@@ -118,11 +122,11 @@ class Batch:
         """Copies between images: regions of eleven numbers, or level 0 of all layers, as far as both have it."""
         row = [
             "copy_image",
-            ids(source, Image, "copy_image: source"),
+            self.own(source, Image, "copy_image: source"),
             number(source_layout, forms.LAYOUT, "copy_image: source layout"),
         ]
         row += [
-            ids(destination, Image, "copy_image: destination"),
+            self.own(destination, Image, "copy_image: destination"),
             number(destination_layout, forms.LAYOUT, "copy_image: destination layout"),
         ]
         both = [
@@ -134,7 +138,8 @@ class Batch:
             )
         ]
         names = [name for name, _ in forms.IMAGE_REGION.members]
-        regions = regions or [(0, 0, 0, 0, both[0], 0, 0, 0, 0, both[1], both[2])]
+        whole = [(0, 0, 0, 0, both[0], 0, 0, 0, 0, both[1], both[2])]
+        regions = listed(whole if regions is None else regions, "copy_image: regions", "regions")
         self.add(*row, [counted(region, names, "copy_image: region", forms.SMALL) for region in regions])
 
     # ---- dependencies
@@ -142,7 +147,22 @@ class Batch:
     def barrier(self, src=None, dst=None, buffers=(), images=()):
         """A barrier: a memory element of two scopes where one is given, and elements of `on_buffer` and `on_image`."""
         memory = [] if src is None and dst is None else [scope(src, "barrier: src") + scope(dst, "barrier: dst")]
-        self.add("barrier", memory, list(buffers), list(images))
+        elements = [
+            self.elements(buffers, Buffer, "barrier: buffers", "on_buffer"),
+            self.elements(images, Image, "barrier: images", "on_image"),
+        ]
+        self.add("barrier", memory, *elements)
+
+    def elements(self, values, kind, what, maker):
+        """The elements of a barrier on resources of a kind."""
+        wanted = f"what {maker} answers"
+        if isinstance(values, Element):
+            raise Wrong(f"{what}: expected a list of {wanted}; found one alone")
+        for each in listed(values, what, wanted):
+            if not isinstance(each, Element):
+                raise Wrong(f"{what}: expected a list of {wanted}; found {each!r} in it")
+            self.own(each.resource, kind, what)
+        return [each.row for each in values]
 
     def transition(self, image, old, new, src=None, dst=None, levels=None, layers=None):
         """A barrier that gives levels and layers of an image another layout."""
@@ -150,18 +170,17 @@ class Batch:
 
     def set(self, event, src=None, dst=None):
         """Sets an event with one dependency."""
-        self.add("set", ids(event, Event, "set"), [scope(src, "set: src") + scope(dst, "set: dst")])
+        self.add("set", self.own(event, Event, "set"), [scope(src, "set: src") + scope(dst, "set: dst")])
 
     def wait_event(self, event, src=None, dst=None):
         """Awaits an event, with the dependency of its set."""
-        self.add("await", ids(event, Event, "await"), [scope(src, "await: src") + scope(dst, "await: dst")])
+        self.add("await", self.own(event, Event, "await"), [scope(src, "await: src") + scope(dst, "await: dst")])
 
 
 def counted(values, names, what, form=forms.LARGE):
     """As many numbers as there are names."""
-    values = list(values)
-    if len(values) != len(names):
-        raise Wrong(f"{what}: expected {len(names)} numbers ({', '.join(names)}); found {len(values)}")
+    if not isinstance(values, (list, tuple)) or len(values) != len(names):
+        raise Wrong(f"{what}: expected {len(names)} numbers ({', '.join(names)}); found {values!r}")
     return [number(value, form, f"{what}: {name}") for value, name in zip(values, names)]
 
 
@@ -186,7 +205,8 @@ def level_regions(image, levels, layers, offset, row_bytes):
 def buffer_regions(what, regions):
     """Regions of a copy with a buffer, as they are written."""
     names = [name for name, _ in forms.BUFFER_IMAGE_REGION.members]
-    rows = [counted(region, names, f"{what}: region", forms.LARGE) for region in regions or ()]
+    regions = listed([] if regions is None else regions, f"{what}: regions", "regions")
+    rows = [counted(region, names, f"{what}: region", forms.LARGE) for region in regions]
     for row in rows:
         for name, value in zip(names[1:], row[1:]):
             number(value, forms.SMALL, f"{what}: region: {name}")
@@ -202,6 +222,17 @@ def families(pair, what):
     return [number(each, forms.FAMILY, what) for each in pair]
 
 
+class Element:
+    """An element of a barrier on a resource, as it stands in the trace."""
+
+    def __init__(self, resource, row):
+        self.resource = resource
+        self.row = row
+
+    def __repr__(self):
+        return f"an element on {self.resource}"
+
+
 def on_buffer(buffer, src=None, dst=None, offset=0, size="whole", owner=None):
     """An element of a barrier on a range of a buffer; `owner` is a pair of queue families."""
     row = (
@@ -209,12 +240,8 @@ def on_buffer(buffer, src=None, dst=None, offset=0, size="whole", owner=None):
         + scope(dst, "buffer element: dst")
         + families(owner, "buffer element: owner")
     )
-    return [
-        *row,
-        ids(buffer, Buffer, "buffer element"),
-        large(offset, "buffer element: offset"),
-        length(size, "buffer element: size"),
-    ]
+    row += [ids(buffer, Buffer, "buffer element", getattr(buffer, "trace", None))]
+    return Element(buffer, [*row, large(offset, "buffer element: offset"), length(size, "buffer element: size")])
 
 
 def on_image(image, old, new, src=None, dst=None, levels=None, layers=None, owner=None):
@@ -224,11 +251,11 @@ def on_image(image, old, new, src=None, dst=None, levels=None, layers=None, owne
         + scope(dst, "image element: dst")
         + families(owner, "image element: owner")
     )
-    row += [ids(image, Image, "image element")]
+    row += [ids(image, Image, "image element", getattr(image, "trace", None))]
     row += [
         number(each, forms.LAYOUT, f"image element: {which} layout") for each, which in ((old, "old"), (new, "new"))
     ]
-    return [*row, image_range(image, levels, layers)]
+    return Element(image, [*row, image_range(image, levels, layers)])
 
 
 class Submit:

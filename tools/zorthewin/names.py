@@ -32,7 +32,7 @@ def number(value, form, what):
 
 def word(value, form, what):
     """One of the words of a form, or Vulkan's name of one."""
-    if value in form.words or value in form.full:
+    if isinstance(value, str) and (value in form.words or value in form.full):
         return form.full.get(value, value)
     raise Wrong(f"{what}: {value!r}: not one of {', '.join(form.words)}")
 
@@ -53,6 +53,13 @@ def scope(text, what):
 def large(value, what):
     """A number of 64 bits."""
     return number(value, forms.LARGE, what)
+
+
+def listed(values, what, wanted):
+    """Some values, in a list or a tuple."""
+    if not isinstance(values, (list, tuple)):
+        raise Wrong(f"{what}: expected a list of {wanted}; found {values!r}")
+    return values
 
 
 def length(value, what):

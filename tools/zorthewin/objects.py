@@ -110,9 +110,11 @@ def rounded(number, step):
     return -(-number // step) * step
 
 
-def ids(value, kinds, what):
-    """The id of an object of one of these kinds."""
+def ids(value, kinds, what, trace):
+    """The id of an object of a trace, of one of these kinds."""
     if not isinstance(value, kinds):
         wanted = " or ".join(kind.kind for kind in (kinds if isinstance(kinds, tuple) else (kinds,)))
         raise Wrong(f"{what}: expected a {wanted}; found {value!r}")
+    if value.trace is not trace:
+        raise Wrong(f"{what}: {value} is of another trace")
     return value.id

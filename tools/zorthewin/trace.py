@@ -6,7 +6,7 @@ import trace_forms as forms
 
 from .answers import judged, replayed
 from .commands import Submit, site
-from .names import Wrong, hexed, large, length, number, word
+from .names import Wrong, hexed, large, length, listed, number, word
 from .objects import Buffer, Defragmentation, Event, Image, Memory, Pool, Semaphore, ids
 
 BOTH_USAGES = "TRANSFER_SRC|TRANSFER_DST"
@@ -40,10 +40,7 @@ class Trace:
 
     def own(self, value, kinds, what):
         """The id of an object of this trace."""
-        found = ids(value, kinds, what)
-        if value.trace is not self:
-            raise Wrong(f"{what}: {value} is of another trace")
-        return found
+        return ids(value, kinds, what, self)
 
     # ---- memory
 
@@ -175,6 +172,8 @@ class Trace:
     def read(self, buffer, size=None, offset=0):
         """Reads bytes of a buffer that is mapped, up to its end where no size is given."""
         self.own(buffer, Buffer, "read")
+        if size is None and large(offset, "read: offset") > buffer.size:
+            raise Wrong(f"read: offset: {offset} is past the {buffer.size} bytes of {buffer}")
         size = buffer.size - large(offset, "read: offset") if size is None else size
         self.add("read", buffer.id, offset, large(size, "read: size"))
 
@@ -204,7 +203,10 @@ class Trace:
 
     def end_pass(self, defragmentation, stay=(), destroyed=()):
         """Ends a pass: some resources stay where they were, and some are destroyed."""
-        lists = [[self.own(each, KINDS, "end_pass") for each in list_] for list_ in (stay, destroyed)]
+        lists = [
+            [self.own(each, KINDS, f"end_pass: {what}") for each in listed(values, f"end_pass: {what}", "resources")]
+            for what, values in (("stay", stay), ("destroyed", destroyed))
+        ]
         self.add("end_pass", self.own(defragmentation, Defragmentation, "end_pass"), *lists)
 
     def end_defragmentation(self, defragmentation):
