@@ -140,11 +140,13 @@ def judge_module():
 
 
 def installed(top, library):
-    """The names that `make install` takes, once it has installed to a folder; skipped where there is no make."""
+    """The names that `make install` takes, once it has installed to a folder; skipped where there is no make. It finds
+    a program itself where the environment names none: ./explain is a script, which runs where it lies alone."""
     if not shutil.which("make"):
         raise Skipped("this needs make")
-    others = [f"{name.upper()}={os.environ.get(name.upper()) or TOP / name}" for name in ("emit", "places")]
-    names = [f"PREFIX={top}", f"PROGRAM={PROGRAM}", f"EXPLAIN={EXPLAIN}", *others, f"LIBRARY={library}"]
+    named = [name for name in ("PROGRAM", "EXPLAIN", "EMIT", "PLACES") if os.environ.get(name)]
+    programs = [f"{name}={os.path.abspath(os.environ[name])}" for name in named]
+    names = [f"PREFIX={top}", *programs, f"LIBRARY={library}"]
     ran = run(["make", "-C", str(TOP), "install", *names])
     if ran.status != 0:
         raise OSError(f"make install: {ran}")
