@@ -21,6 +21,8 @@ from pictured_points import points_of
 PICTURE = str(TOP / "tools" / "picture.py")
 SCRIPT = str(TOP / "explain")
 ROOM = tempfile.TemporaryDirectory()
+# An element with all stages and accesses that have a name.
+MASKS = [86016, 129024, 86016, 129024]
 # A character of the picture's font is no wider.
 CHARACTER = 7.3
 # The characters of a line where the page has little room.
@@ -83,7 +85,8 @@ def judge_links():
 
 
 def judge_whole_text():
-    """A text that is longer than a line goes on in the next one, a word that is too by itself, and no box is endless."""
+    """A text that is longer than a line goes on in the next one, a mask that is too behind a name of it, and no box is
+    endless."""
     element = [4096, 4096, 16384, 8192]
     entries = [["submit", 0, [[[], [["barrier", [element] * count, [], []] for count in (1, 40)], []]]]]
     said = {"verdict": "accepted"}
@@ -91,6 +94,11 @@ def judge_whole_text():
     joined = " ".join(boxes[1][1])
     if joined != "0.0.0  barrier TRANSFER:TRANSFER_WRITE → HOST:HOST_READ":
         return f"found {joined!r}"
+    masks = [["submit", 0, [[[], [["barrier", [MASKS], [], []]], []]]]]
+    lines = boxes_of(Drawing(masks, said).svg(True))[1][1]
+    names = [set(re.findall(r"[A-Z_]+", between.join(lines))) for between in ("", " ")]
+    if len(lines) < 4 or names[0] != names[1]:
+        return f"a name is broken: {lines}"
     last = boxes[2][1][-1]
     return None if re.fullmatch(r"… \d+ more lines", last) else f"the long box ends with {last!r}"
 
@@ -285,7 +293,7 @@ def judge_scripts():
     # (numbers beyond those of JavaScript, a layout and bits without a name)
     element = [1, 1 << 31, 0, 0, 4294967295, 4294967295, 3, 5, 7, [0, 1, 0, 1]]
     large = [["semaphore", 1, 2**64 - 2], ["signal", 1, 2**64 - 1], ["wait", [[1, 2**64 - 1]]]]
-    large += [["submit", 0, [[[], [["barrier", [], [], [element]], ["fill", 4, 2**63, 2**63, 0]], []]]]]
+    large += [["submit", 0, [[[], [["barrier", [MASKS], [], [element]], ["fill", 4, 2**63, 2**63, 0]], []]]]]
     asked.append({"name": "large", "trace": json.dumps(large), "said": {"verdict": "accepted"}, "whole": True, "room": 0})
     ran = run(["node", str(TOP / "tests" / "page_picture.js")], json.dumps(asked).encode())
     if ran.status != 0:

@@ -44,14 +44,15 @@ text { fill: #1f2328; } .lane { font-weight: bold; font-size: 14px; } .quiet { f
 
 
 def wrapped(text, fit):
-    """The lines of a text, none longer than what fits."""
+    """The lines of a text, none longer than what fits. A word that is longer is broken behind a mark, if it has one."""
     lines = [""]
     for word in text.split(" "):
         if lines[-1] and len(lines[-1]) + 1 + len(word) > fit:
             lines.append("")
         lines[-1] = f"{lines[-1]} {word}" if lines[-1] else word
         while len(lines[-1]) > fit:
-            lines[-1:] = [lines[-1][:fit], lines[-1][fit:]]
+            end = max(lines[-1].rfind(mark, 0, fit) for mark in "|:,") + 1 or fit
+            lines[-1:] = [lines[-1][:end], lines[-1][end:]]
     return lines
 
 

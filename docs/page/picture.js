@@ -208,7 +208,8 @@ function wrapped(text, fit) {
     lines.push(((line) => (line ? `${line} ${word}` : word))(lines.pop()));
     while (lines[lines.length - 1].length > fit) {
       const long = lines.pop();
-      lines.push(long.slice(0, fit), long.slice(fit));
+      const end = Math.max(...["|", ":", ","].map((mark) => long.lastIndexOf(mark, fit - 1))) + 1 || fit;
+      lines.push(long.slice(0, end), long.slice(end));
     }
   }
   return lines;
