@@ -3,7 +3,8 @@
 
     PROGRAM=FILE PLACES=FILE tests/places.py [WORD]
 
-With WORD only those tests run whose names have it. Of each example and worked trace that is accepted each state has to
+With WORD only those tests run whose names have it. Where GPU_MEM_DUMP_VIS names the script of VMA that draws its files
+of statistics, tools/GpuMemDumpVis/GpuMemDumpVis.py, it draws the examples, too (it needs Pillow). Of each example and worked trace that is accepted each state has to
 fit together: ranges lie side by side in their blocks, taken or free; resources lie in their memory objects and share no
 byte; the sums are those of the heaps and pools. Where an allocation finds no room it has to find some without what
 would have to go, as `replay` says.
@@ -26,6 +27,22 @@ from worked import REFUSED, REPLAYED, STOPPED, texts_of
 PLACES = os.path.abspath(os.environ.get("PLACES") or TOP / "places")
 PICTURE = str(TOP / "tools" / "places_picture.py")
 VMA = str(TOP / "tools" / "vma_json.py")
+DRAWS_VMA = os.environ.get("GPU_MEM_DUMP_VIS")
+# What objects of VMA's files have, and what they may have as well (GpuMemDump.schema.json of VMA 3.2.1).
+COUNTS = {"BlockCount", "BlockBytes", "AllocationCount", "AllocationBytes", "UnusedRangeCount"}
+SIZES = {"AllocationSizeMin", "AllocationSizeMax", "UnusedRangeSizeMin", "UnusedRangeSizeMax"}
+VMA_FORMS = {
+    "file": ({"General", "Total", "MemoryInfo", "DefaultPools", "CustomPools"}, set()),
+    "statistics": (COUNTS, SIZES),
+    "heap": ({"Flags", "Size", "Budget", "Stats", "MemoryPools"}, set()),
+    "type": ({"Flags", "Stats"}, set()),
+    "default pool": ({"PreferredBlockSize", "Blocks", "DedicatedAllocations"}, set()),
+    "custom pool": ({"Name", "PreferredBlockSize", "Blocks", "DedicatedAllocations"}, {"Flags"}),
+    "block": ({"MapRefCount", "TotalBytes", "UnusedBytes", "Allocations", "UnusedRanges", "Suballocations"}, set()),
+    "dedicated allocation": ({"Type", "Size"}, {"Usage", "Name"}),
+    "range": ({"Offset", "Type", "Size"}, {"Usage", "Name"}),
+}
+VMA_TYPES = {"FREE", "UNKNOWN", "BUFFER", "IMAGE_UNKNOWN", "IMAGE_LINEAR", "IMAGE_OPTIMAL"}
 # Of a trace of more entries the last state alone is asked for.
 MOST_ENTRIES = 300
 HEAP = 4_194_304
@@ -238,7 +255,7 @@ def picture_fault(trace, *arguments):
             half = len(text.firstChild.data) * CHARACTER / 2
             if not any(left <= x - half and x + half <= left + wide and top < y < top + BAR for left, top, wide in rects):
                 return f"the label {text.firstChild.data} leaves its part"
-    return None
+    return None if rects else "nothing is drawn"
 
 
 def page_fault():
@@ -246,6 +263,87 @@ def page_fault():
     ran = run([PICTURE], run([PLACES], example("defragmented_pool")).output)
     same = ran.output == (TOP / "docs" / "defragmented_pool.svg").read_bytes()
     return None if same else "docs/defragmented_pool.svg is another picture"
+
+
+def lacking_fault():
+    """What differs in the lines of a picture where there is no room."""
+    found = run([PICTURE], run([PLACES], example("full_heap")).output).output.decode()
+    lines = [
+        "entry 1 finds no room for 2",
+        "it asks heap 1 for a memory object of 16 bytes: 0 are left, with 1 of 4,096 memory objects live",
+        "it would have room without memory object 0",
+    ]
+    lacks = [line for line in lines if f">{line}<" not in found]
+    if lacks or "not there" in found or found.count('class="go"') != 2:
+        return f"lacks {lacks}: {found}"
+    # (larger than the heap, so that nothing that goes makes room: both heaps, in one state)
+    large = b'[["buffer",1,16,3,"exclusive",["dedicated",1]],["memory",2,0,5000000]]'
+    found = run([PICTURE], run([PLACES], large).output).output.decode()
+    same = found.count('class="head"') == 1 and ">heap 0<" in found and ">heap 1<" in found
+    return None if same and "what would have to go" not in found else found
+
+
+def forms_in(dump):
+    """Each object of a file of VMA's statistics, with the name of its form."""
+    yield "file", dump
+    yield "statistics", dump["Total"]
+    for heap in dump["MemoryInfo"].values():
+        yield from (("heap", heap), ("statistics", heap["Stats"]))
+        for each in heap["MemoryPools"].values():
+            yield from (("type", each), ("statistics", each["Stats"]))
+    pools = [("default pool", each) for each in dump["DefaultPools"].values()]
+    pools += [("custom pool", each) for some in dump["CustomPools"].values() for each in some]
+    for name, pool in pools:
+        yield name, pool
+        yield from (("dedicated allocation", each) for each in pool["DedicatedAllocations"])
+        for block in pool["Blocks"].values():
+            yield "block", block
+            yield from (("range", each) for each in block["Suballocations"])
+
+
+def vma_block_fault(block):
+    """What differs where the ranges of a block lie side by side, and are counted."""
+    end = 0
+    for each in block["Suballocations"]:
+        if each["Offset"] != end:
+            return f"a range at {each['Offset']}, behind one up to {end}"
+        end += each["Size"]
+    free = [each["Size"] for each in block["Suballocations"] if each["Type"] == "FREE"]
+    counts = (end, sum(free), len(free), len(block["Suballocations"]) - len(free))
+    wanted = tuple(block[key] for key in ("TotalBytes", "UnusedBytes", "UnusedRanges", "Allocations"))
+    return None if counts == wanted else f"found {counts}; wanted {wanted}"
+
+
+def form_fault(trace):
+    """What differs in VMA's form of each state of a trace."""
+    told = run([PLACES], trace).output
+    for state in json.loads(told)["states"]:
+        ran = run([VMA, "--entry", str(state["entry"])], told)
+        if ran.status != 0 or ran.error:
+            return str(ran)
+        dump = json.loads(ran.output)
+        for name, found in forms_in(dump):
+            wanted, more = VMA_FORMS[name]
+            if not wanted <= {*found} <= wanted | more or found.get("Type", "FREE") not in VMA_TYPES:
+                return f"after entry {state['entry']}: a {name}: {found}"
+            fault = vma_block_fault(found) if name == "block" else None
+            if fault:
+                return f"after entry {state['entry']}: {fault}"
+        used = [heap["Stats"]["BlockBytes"] for heap in dump["MemoryInfo"].values()]
+        if used != [heap["used"] for heap in state["heaps"]] or dump["Total"]["BlockBytes"] != sum(used):
+            return f"after entry {state['entry']}: heaps of {used} bytes"
+    return None
+
+
+def drawn_by_vma(trace):
+    """What differs where VMA's own script draws the last state in which memory is allocated."""
+    told = run([PLACES], trace).output
+    entry = [state["entry"] for state in json.loads(told)["states"] if state["objects"]][-1]
+    with tempfile.TemporaryDirectory() as folder:
+        dump, picture = Path(folder) / "dump.json", Path(folder) / "dump.png"
+        dump.write_bytes(run([VMA, "--entry", str(entry)], told).output)
+        ran = run(["python3", DRAWS_VMA, "-o", str(picture), str(dump)])
+        return None if ran.status == 0 and picture.read_bytes()[:4] == b"\x89PNG" else str(ran)
 
 
 def vma_fault():
@@ -324,6 +422,7 @@ def tool_tests():
         yield Test(f"picture: {name}", lambda n=name: picture_fault(example(n)))
     yield Test("picture: --entries", lambda: picture_fault(example("passes_with_limits"), "--entries", "7,15,23"))
     yield Test("picture: that of the manual", page_fault)
+    yield Test("picture: what finds no room", lacking_fault)
     refused = '{"verdict":"refused","at":"5","rule":"HAZARD_RAW"}'.encode()
     for tool in (PICTURE, VMA):
         name = Path(tool).stem
@@ -331,16 +430,25 @@ def tool_tests():
         yield Test(f"{name}: no JSON", lambda t=tool: None if run([t], b"[").status == 2 else "taken")
         yield Test(f"{name}: no such file", lambda t=tool: None if run([t, "/nonexistent"]).status == 5 else "taken")
     yield Test("vma_json: a pool with free ranges", vma_fault)
+    for name in ("full_pool", "full_heap", "passes_with_limits", "every_entry", "double_stack", "image_mips"):
+        yield Test(f"vma_json: {name}", lambda n=name: form_fault(example(n)))
+        if DRAWS_VMA:
+            yield Test(f"vma_json: {name}, drawn by VMA's script", lambda n=name: drawn_by_vma(example(n)))
 
 
-def all_tests():
-    """The tests."""
-    yield from program_tests()
+def state_tests():
+    """The tests of the states of each accepted trace."""
     for name, text, entries in accepted():
         yield Test(f"states: {name}", lambda t=text, e=entries: trace_fault(t, e))
         if b"NO_ROOM" in run([PROGRAM], text).output and len(entries) <= MOST_ENTRIES:
             yield Test(f"room: {name}", lambda t=text, e=entries: room_fault(t, e))
-    yield from tool_tests()
+
+
+def all_tests():
+    """The tests."""
+    word = sys.argv[1] if len(sys.argv) > 1 else ""
+    for tests in (program_tests, state_tests, tool_tests):
+        yield from (test for test in tests() if word in test.name)
 
 
 if __name__ == "__main__":

@@ -8,8 +8,9 @@ LEFT, COLUMN, BETWEEN, MARGIN = 196, 300, 28, 24
 HEAD, BAR, ROW, LINE = 72, 28, 62, 18
 # The width of a character, and what a label leaves free at its sides.
 CHARACTER, SIDES = 7.3, 8
-# Rows that are drawn at most.
+# Rows that are drawn at most, and their kinds, from above.
 MOST_ROWS = 60
+HEAP, BLOCK, OBJECT = range(3)
 STYLE = """
 svg { font: 12px ui-monospace, Menlo, Consolas, monospace; background: #ffffff; }
 text { fill: #1f2328; } .head { font-weight: bold; font-size: 14px; } .quiet { fill: #6e7781; } .middle { text-anchor: middle; }
@@ -130,16 +131,15 @@ def bars_of(state, gone, objects_gone):
     """The bars of a state, each by a key that has its place among all, with what is called so at the left."""
     bars = {}
     for heap in (0, 1):
-        if state["heaps"][heap]["used"] or objects_gone:
-            bars[(0, heap, 0)] = ((f"heap {heap}", ""), heap_bar(state, heap, objects_gone))
+        bars[(HEAP, heap, 0)] = ((f"heap {heap}", ""), heap_bar(state, heap, objects_gone))
     for pool in state["pools"]:
         for block in pool["blocks"]:
             names = (f"pool {pool['id']}, block {block['number']}", f"{pool['algorithm']}, {number(pool['block_size'])} bytes")
-            bars[(1, pool["id"], block["number"])] = (names, block_bar(state, pool, block, gone))
+            bars[(BLOCK, pool["id"], block["number"])] = (names, block_bar(state, pool, block, gone))
     for item in state["objects"]:
         if "pool" not in item:
             names = (f"memory object {item['number']}", f"of {item.get('id', '?')}, type {item['type']}")
-            bars[(2, item["number"], 0)] = (names, object_bar(state, item))
+            bars[(OBJECT, item["number"], 0)] = (names, object_bar(state, item))
     return bars
 
 
@@ -147,11 +147,15 @@ class Drawing:
     """A picture of states, each with a title and a line below it, and of lines at the end."""
 
     def __init__(self):
-        self.columns, self.parts, self.used, self.lines = [], [], set(), []
+        self.columns, self.parts, self.used, self.lines, self.asked = [], [], set(), [], None
 
     def add(self, title, words, state, gone=(), objects_gone=()):
         """Adds a column."""
         self.columns.append((title, words, bars_of(state, set(gone), set(objects_gone))))
+
+    def ask(self, heap):
+        """Draws a heap in any case."""
+        self.asked = heap
 
     def say(self, kind, words):
         """Adds a line at the end."""
@@ -232,13 +236,18 @@ class Drawing:
             x += 25 + len(words) * CHARACTER + 22
         return y + LINE
 
+    def is_drawn(self, key):
+        """Whether a row is drawn: of a heap where something lies in it in one of the states, or it is asked."""
+        kind, heap, _ = key
+        return kind != HEAP or heap == self.asked or any(bars[key][1].parts for _, _, bars in self.columns)
+
     def draw(self):
         """All rows and what stands below; answers where it ends."""
         for place, (title, words, _) in enumerate(self.columns):
             x = LEFT + place * (COLUMN + BETWEEN)
             self.text("head", x, 34, title)
             self.text("quiet", x, 53, words)
-        keys = sorted({key for _, _, bars in self.columns for key in bars})
+        keys = sorted(key for key in {key for _, _, bars in self.columns for key in bars} if self.is_drawn(key))
         y = HEAD
         for key in keys[:MOST_ROWS]:
             self.row(key, y)

@@ -4,9 +4,9 @@
     ./places < trace.json | tools/places_picture.py > picture.svg
     ./places < trace.json | tools/places_picture.py --entries 3,17,21 > picture.svg
 
-Each column is a state: those around the passes of a defragmentation, else the last one and the one before it; with
---entries those after these entries. Each row is a heap, a block of a pool, or another memory object, to scale. Where
-an allocation finds no room the last column shows what would have to go. The picture follows the reader's choice of
+Each column is a state: those around the passes of a defragmentation, else the last two in which memory is allocated;
+with --entries those after these entries. Each row is a heap, a block of a pool, or another memory object, to scale.
+Where an allocation finds no room these are the last two states, and a third column shows what would have to go. The picture follows the reader's choice of
 light or dark.
 
 Without FILE, or with `-`, standard input is read. The status is 0 where a picture was written, 2 where the text isn't
@@ -29,14 +29,15 @@ def numbers(words):
     return [int(word) for word in words.split(",")]
 
 
-def chosen(states, entries):
+def chosen(states, entries, is_stopped):
     """The states that are drawn."""
     if entries is not None:
         found = [[state for state in states if state["entry"] <= entry][-1:] for entry in entries]
         return [state for some in found for state in some]
     passes = [k for k, state in enumerate(states) if state["call"] in ("pass", "end_pass")]
     if not passes:
-        return states[-2:]
+        allocated = [] if is_stopped else [state for state in states if state["objects"]]
+        return (allocated or states)[-2:]
     before = states[max(passes[0] - 1, 0) : passes[0]]
     return (before + [states[k] for k in passes])[:MOST_COLUMNS]
 
@@ -54,8 +55,8 @@ def listed(items):
     return ", ".join(str(item) for item in items)
 
 
-def lack_lines(lack):
-    """What an allocation lacks, in words."""
+def lack_lines(lack, names):
+    """What an allocation lacks, in words, by the names of resources."""
     lines = [f"entry {lack['entry']} finds no room for {lack.get('id', 'what it makes')}"]
     pool, heap = lack.get("pool"), lack.get("heap")
     if pool:
@@ -64,31 +65,35 @@ def lack_lines(lack):
             f"{number(pool['free'])} are free, at most {number(pool['largest_free'])} at once"
         )
         if pool["go"]:
-            lines.append(f"it would have room without {listed(pool['go'])}")
+            lines.append(f"it would have room without {listed(names.get(each, each) for each in pool['go'])}")
     if heap:
         lines.append(
             f"it asks heap {heap['number']} for a memory object of {number(heap['size'])} bytes: "
-            f"{number(heap['free'])} are left, and {number(heap['objects'])} objects are live"
+            f"{number(heap['free'])} are left, with {number(heap['objects'])} of 4,096 memory objects live"
         )
         if heap["go"]:
-            lines.append(f"there would be room without the memory objects {listed(heap['go'])}")
+            lines.append(f"it would have room without {listed(f'memory object {each}' for each in heap['go'])}")
     return lines
 
 
 def drawn(told, entries):
     """The picture of what `places` wrote."""
     drawing = Drawing()
-    states = chosen(told["states"], entries)
-    for state in states:
-        drawing.add(*title_of(state), state)
     lack = told["no_room"]
+    for state in chosen(told["states"], entries, lack is not None):
+        drawing.add(*title_of(state), state)
+    if not told["states"]:
+        drawing.say("quiet", "no entry allocates memory")
     if lack:
-        for line in lack_lines(lack):
+        resources = told["states"][-1]["resources"] if told["states"] else []
+        for line in lack_lines(lack, {item["id"]: f"{item['kind']} {item['id']}" for item in resources}):
             drawing.say("bad", line)
-        if told["states"] and entries is None:
-            pool, heap = lack.get("pool") or {}, lack.get("heap") or {}
+        if lack.get("heap"):
+            drawing.ask(lack["heap"]["number"])
+        gone, objects_gone = ((lack.get(where) or {}).get("go") or () for where in ("pool", "heap"))
+        if (gone or objects_gone) and entries is None:
             title = f"entry {lack['entry']} has no room"
-            drawing.add(title, "what would have to go", told["states"][-1], pool.get("go") or (), heap.get("go") or ())
+            drawing.add(title, "what would have to go", told["states"][-1], gone, objects_gone)
     return drawing.svg()
 
 

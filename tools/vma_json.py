@@ -88,8 +88,8 @@ def suballocations(block, resources):
     return [{"Offset": offset, **words} for offset, words in sorted(ranges, key=lambda r: r[0])]
 
 
-def pool_of(pool, resources, objects):
-    """A pool of a trace, as one of VMA's custom pools."""
+def pool_of(index, pool, resources, objects):
+    """A pool of a trace, as one of VMA's custom pools: VMA counts those of a memory type in their names."""
     blocks = {}
     for block in pool["blocks"]:
         blocks[str(block["number"])] = {
@@ -100,7 +100,7 @@ def pool_of(pool, resources, objects):
             "UnusedRanges": len(block["free"]),
             "Suballocations": suballocations(block, resources),
         }
-    told = {"Name": f"pool {pool['id']}"}
+    told = {"Name": f"{index} - pool {pool['id']}"}
     if pool["algorithm"] == "linear":
         told["Flags"] = ["LINEAR_ALGORITHM_BIT"]
     return {**told, "PreferredBlockSize": pool["block_size"], "Blocks": blocks, "DedicatedAllocations": []}
@@ -172,9 +172,11 @@ def dump(state):
             "Blocks": {},
             "DedicatedAllocations": dedicated_of(state, number, resources),
         }
-        pools = [pool_of(pool, resources, objects) for pool in state["pools"] if pool["type"] == number]
+        pools = [pool for pool in state["pools"] if pool["type"] == number]
         if pools:
-            told["CustomPools"][f"Type {number}"] = pools
+            told["CustomPools"][f"Type {number}"] = [
+                pool_of(index, pool, resources, objects) for index, pool in enumerate(pools)
+            ]
     return told
 
 
