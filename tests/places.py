@@ -22,6 +22,7 @@ sys.path.append(str(Path(__file__).resolve().parent.parent / "tools"))
 
 from harness import PROGRAM, TOP, Test, answered, compared, difference, main, run
 from pictured_places import BAR, CHARACTER
+from places_reading import TOLD, check
 from worked import REFUSED, REPLAYED, STOPPED, texts_of
 
 PLACES = os.path.abspath(os.environ.get("PLACES") or TOP / "places")
@@ -43,6 +44,30 @@ VMA_FORMS = {
     "range": ({"Offset", "Type", "Size"}, {"Usage", "Name"}),
 }
 VMA_TYPES = {"FREE", "UNKNOWN", "BUFFER", "IMAGE_UNKNOWN", "IMAGE_LINEAR", "IMAGE_OPTIMAL"}
+# Texts that places doesn't write of an accepted trace, and what the tools say of them.
+STATE = (
+    b'{"entry":0,"call":"buffer","pass":null,"heaps":[{"size":9,"used":0},{"size":9,"used":0}],"objects":[%s],'
+    b'"pools":[%s],"resources":[]}'
+)
+BLOCK = b'{"id":1,"algorithm":"tlsf","type":%d,"block_size":9,"blocks":[{"number":0,"object":7,"taken":[],"free":[]}]}'
+WITH_STATE = b'{"verdict":"accepted","states":[%s],"no_room":null}'
+UNLIKE = {
+    b"": "line 1, column 1: expected JSON: Expecting value",
+    b'{"verdict"\n': "line 2, column 1: expected JSON: Expecting ':' delimiter",
+    b'{"\xff"}': "byte 2: expected UTF-8; found the byte 0xff",
+    b"[" * 100_000: "arrays or objects nest too deep",
+    b'[["map",1]]': "an array; if it is a trace, ./places writes what is expected here",
+    b"null": "member /: expected an object; found null",
+    b"2.5": "member /: expected an object; found another number",
+    b'{"verdict":"refused","at":"5","rule":"HAZARD_RAW"}': "the trace breaks a rule: refused 5 HAZARD_RAW",
+    b'{"verdict":"accepted","states":{}}': "member /states: expected an array; found an object",
+    b'{"verdict":"accepted","states":[]}': "member /: expected the member no_room; found none",
+    WITH_STATE % b"{}": "member /states/0: expected the member entry; found none",
+    WITH_STATE % (STATE % (b'{"number":true}', b"")): "member /states/0/objects/0/number: expected a number; found true",
+    WITH_STATE
+    % (STATE % (b"", BLOCK % 1)): "member /states/0/pools: expected blocks that are among the objects, of 1 byte or more",
+    WITH_STATE % (STATE % (b"", BLOCK % 3)): "member /states/0: expected memory types from 0 to 2",
+}
 # Of a trace of more entries the last state alone is asked for.
 MOST_ENTRIES = 300
 HEAP = 4_194_304
@@ -152,6 +177,8 @@ def trace_fault(trace, entries):
     """What is wrong with what is told of an accepted trace, which has an entry without room or none."""
     ways = ("--after", str(len(entries) - 1)) if len(entries) > MOST_ENTRIES else ()
     told = told_of(trace, *ways)
+    # (what the tools take for it)
+    check(told, TOLD, "")
     for state in told["states"]:
         found = state_fault(state)
         if found:
@@ -423,12 +450,17 @@ def tool_tests():
     yield Test("picture: --entries", lambda: picture_fault(example("passes_with_limits"), "--entries", "7,15,23"))
     yield Test("picture: that of the manual", page_fault)
     yield Test("picture: what finds no room", lacking_fault)
-    refused = '{"verdict":"refused","at":"5","rule":"HAZARD_RAW"}'.encode()
     for tool in (PICTURE, VMA):
         name = Path(tool).stem
-        yield Test(f"{name}: a refused trace", lambda t=tool: None if run([t], refused).status == 2 else "taken")
-        yield Test(f"{name}: no JSON", lambda t=tool: None if run([t], b"[").status == 2 else "taken")
-        yield Test(f"{name}: no such file", lambda t=tool: None if run([t, "/nonexistent"]).status == 5 else "taken")
+        for text, why in UNLIKE.items():
+            title = f"{name}.py: standard input: not what places writes of an accepted trace"
+            yield compared(f"{name}: {text[:40]}", answered("", 2, f"{title}: {why}\n"), [tool], text)
+        yield compared(f"{name}: no such file", answered("", 5, "/none: No such file or directory\n"), [tool, "/none"])
+        words = ["--entries" if tool == PICTURE else "--entry", "0"]
+        early = lambda t=tool, w=words: run([t, *w], b'{"verdict":"accepted","states":[],"no_room":null}')
+        yield Test(f"{name}: no state", lambda e=early: None if b"it has no state after entry 0" in e().error else str(e()))
+    said = run([PICTURE, "--entries", "3,x"], b"[]")
+    yield Test("picture: no entries", lambda: None if said.status == 6 and b"numbers of entries" in said.error else str(said))
     yield Test("vma_json: a pool with free ranges", vma_fault)
     for name in ("full_pool", "full_heap", "passes_with_limits", "every_entry", "double_stack", "image_mips"):
         yield Test(f"vma_json: {name}", lambda n=name: form_fault(example(n)))

@@ -14,11 +14,12 @@ what `places` writes of an accepted trace, 5 where something can't be read or wr
 right.
 """
 
-import json
+import argparse
 import sys
 
-from command_line import NOT_A_TRACE, Arguments, read_all, run_tool, write_all
+from command_line import NOT_A_TRACE, Arguments, run_tool, write_all
 from pictured_places import Drawing, number
+from places_reading import Unlike, read_places, said
 
 # Columns that are drawn where nothing else is asked.
 MOST_COLUMNS = 8
@@ -26,6 +27,8 @@ MOST_COLUMNS = 8
 
 def numbers(words):
     """The numbers of entries in an argument."""
+    if not all(word.isascii() and word.isdigit() for word in words.split(",")):
+        raise argparse.ArgumentTypeError("numbers of entries are expected, with commas between them")
     return [int(word) for word in words.split(",")]
 
 
@@ -104,13 +107,12 @@ def answer():
     parser.add_argument("file", nargs="?", default="-", metavar="FILE", help="what places wrote; - for standard input")
     options = parser.parse_args()
     try:
-        told = json.loads(read_all(options.file))
-    except ValueError as error:
-        print(f"places_picture.py: not what places writes: {error}", file=sys.stderr)
-        return NOT_A_TRACE
-    if not isinstance(told, dict) or told.get("verdict") != "accepted":
-        words = f"refused {told.get('at')} {told.get('rule')}" if isinstance(told, dict) else "no object"
-        print(f"places_picture.py: not what places writes of an accepted trace: {words}", file=sys.stderr)
+        told = read_places(options.file)
+        early = [entry for entry in options.entries or () if not any(s["entry"] <= entry for s in told["states"])]
+        if early:
+            raise Unlike(f"it has no state after entry {early[0]}")
+    except Unlike as why:
+        print(said("places_picture.py", options.file, why), file=sys.stderr)
         return NOT_A_TRACE
     write_all(drawn(told, options.entries))
     return 0

@@ -16,7 +16,8 @@ command line isn't right.
 import json
 import sys
 
-from command_line import NOT_A_TRACE, Arguments, read_all, run_tool, write_all
+from command_line import NOT_A_TRACE, Arguments, run_tool, write_all
+from places_reading import Unlike, read_places, said
 
 # The device of the traces (profile): its heaps and its memory types, each with its flags.
 HEAPS = (["DEVICE_LOCAL"], [])
@@ -180,12 +181,6 @@ def dump(state):
     return told
 
 
-def refuse(words):
-    """Says why nothing is written, and answers the status."""
-    print(f"vma_json.py: {words}", file=sys.stderr)
-    return NOT_A_TRACE
-
-
 def answer():
     """Does what the command line asks."""
     parser = Arguments(description=__doc__.splitlines()[0])
@@ -193,14 +188,13 @@ def answer():
     parser.add_argument("file", nargs="?", default="-", metavar="FILE", help="what places wrote; - for standard input")
     options = parser.parse_args()
     try:
-        told = json.loads(read_all(options.file))
-    except ValueError as error:
-        return refuse(f"not what places writes: {error}")
-    if not isinstance(told, dict) or told.get("verdict") != "accepted":
-        return refuse("not what places writes of an accepted trace")
-    states = [state for state in told["states"] if options.entry is None or state["entry"] <= options.entry]
-    if not states:
-        return refuse("there is no such state")
+        told = read_places(options.file)
+        states = [state for state in told["states"] if options.entry is None or state["entry"] <= options.entry]
+        if not states:
+            raise Unlike("it has no state" if options.entry is None else f"it has no state after entry {options.entry}")
+    except Unlike as why:
+        print(said("vma_json.py", options.file, why), file=sys.stderr)
+        return NOT_A_TRACE
     write_all(json.dumps(dump(states[-1]), indent=2) + "\n")
     return 0
 
