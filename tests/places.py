@@ -4,10 +4,11 @@
     PROGRAM=FILE PLACES=FILE tests/places.py [WORD]
 
 With WORD only those tests run whose names have it. Where GPU_MEM_DUMP_VIS names the script of VMA that draws its files
-of statistics, tools/GpuMemDumpVis/GpuMemDumpVis.py, it draws the examples, too (it needs Pillow). Of each example and worked trace that is accepted each state has to
-fit together: ranges lie side by side in their blocks, taken or free; resources lie in their memory objects and share no
-byte; the sums are those of the heaps and pools. Where an allocation finds no room it has to find some without what
-would have to go, as `replay` says.
+of statistics, tools/GpuMemDumpVis/GpuMemDumpVis.py, that draws examples, too (it needs Pillow).
+
+Of each example and worked trace that is accepted each state has to fit together: ranges lie side by side in their
+blocks, taken or free; resources lie in their memory objects and share no byte; the sums are those of the heaps and
+pools. Where an allocation finds no room it has to find some without what would have to go, as `replay` says.
 """
 
 import json
