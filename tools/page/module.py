@@ -2,7 +2,8 @@
 
 The toolchain proves the crate zorthewin_c and lowers it to a module of LLVM. That module is kept, said to be for
 WebAssembly, and compiled for a memory of 64 bits by the toolchain's clang; binaryen (wasm-opt) makes that one of 32
-bits, which every engine has. No proof covers any of these steps.
+bits, which every engine has. No proof covers any of these steps. (The toolchain has WebAssembly as a target of its own,
+but takes no library for it that calls C, as each does that allocates memory.)
 """
 
 import os
