@@ -177,6 +177,8 @@ def judge_seen(found):
     lacks = [line for line in lines[1:] if line not in shown and not (verdict or "").endswith(line)]
     if verdict is None or lacks:
         return f"{name}: not shown: {lacks or lines[0]}; shown: {shown}"
+    if found["listed"] != name:
+        return f"{name}: in sight in the list: {found['listed']}"
     place = re.search(r"line (\d+)", said["text"]) if said["status"] else None
     if not found["mended"] and place and found["marked"] != [place[1]]:
         return f"{name}: marked: {found['marked']}"

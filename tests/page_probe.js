@@ -11,12 +11,19 @@ function seen() {
   return document.getElementById("right").innerText.split("\n").map((line) => line.trim());
 }
 
+// The example that is marked in the list, if it is in sight there.
+function listed() {
+  const row = document.querySelector("#list [aria-current]");
+  const [mine, all] = [row, document.getElementById("list")].map((each) => each.getBoundingClientRect());
+  return mine.top >= all.top - 1 && mine.bottom <= all.bottom + 1 ? row.textContent : null;
+}
+
 async function probe() {
   const found = [];
   for (const name of NAMES) {
     location.hash = encodeURIComponent(name);
     while (document.body.dataset.judged !== name) await pause();
-    const one = { name, seen: seen(), mended: null, picture: null };
+    const one = { name, seen: seen(), listed: listed(), mended: null, picture: null };
     if (!document.getElementById("drawn").hidden) {
       const image = document.getElementById("picture");
       await image.decode();

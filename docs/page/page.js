@@ -114,12 +114,19 @@ function open(example) {
   get("trace").scrollTop = get("trace").scrollLeft = 0;
   get("name").textContent = document.body.dataset.opened = example.name;
   get("about").textContent = example.about;
-  for (const button of get("list").querySelectorAll("button")) {
-    if (button.textContent === example.name) button.setAttribute("aria-current", "true");
-    else button.removeAttribute("aria-current");
-  }
+  mark();
   number();
   judge();
+}
+
+// Marks the example that is open in the list, and brings it into sight there.
+function mark() {
+  for (const button of get("list").querySelectorAll("button")) {
+    button.removeAttribute("aria-current");
+    if (button.textContent !== document.body.dataset.opened) continue;
+    button.setAttribute("aria-current", "true");
+    button.scrollIntoView({ block: "nearest" });
+  }
 }
 
 function list() {
@@ -134,6 +141,7 @@ function list() {
     rows.push(button);
   }
   get("list").replaceChildren(...(rows.length ? rows : [made("p", "none")]));
+  mark();
 }
 
 function openNamed() {
