@@ -23,6 +23,8 @@ FEATURES = ("bulk-memory", "sign-ext", "mutable-globals", "nontrapping-float-to-
 # (what a module for x86-64 says of its functions, and WebAssembly doesn't know)
 FOREIGN = re.compile(r'"(?:probe-stack|stack-probe-size|target-cpu|frame-pointer)"="[^"]*" ?')
 STACK = 8 << 20
+# Of what a step says so many letters are shown from its begin, and from its end.
+SHOWN = 1000
 # Libraries call instructions of x86-64 by name: simdutf8 a shuffle of bytes, to check UTF-8. WebAssembly's backend knows
 # none of them, and ends with "Do not know how to split the result of this operator" at the function that the call was
 # inlined into. So a function here does what the instruction does: its type, its arguments and its body. It is always
@@ -91,11 +93,12 @@ def found_module():
 
 
 def run(command, **where):
-    """Runs a step; what it says is shown where it fails."""
+    """Runs a step; where it fails, what it says is shown: its begin, which has clang's error, and its end."""
     words = [str(it) for it in command]
     ran = subprocess.run(words, stdout=subprocess.PIPE, stderr=subprocess.STDOUT, check=False, **where)
     if ran.returncode != 0:
-        said = ran.stdout.decode(errors="replace").strip()[-2000:]
+        said = ran.stdout.decode(errors="replace").strip()
+        said = said if len(said) <= 2 * SHOWN else f"{said[:SHOWN]}\n..\n{said[-SHOWN:]}"
         raise Failed(f"{os.path.basename(words[0])} ended with {ran.returncode}: {said}")
 
 
@@ -175,7 +178,8 @@ def make_module(to):
         run([clang, *as_text, kept, "-o", text])
         with open(text) as lines, open(ours, "w") as out:
             out.writelines(retargeted(lines))
-        run([clang, *TARGET, "-O2", "-ffunction-sections", "-x", "ir", "-c", ours, "-o", room / "ours.o"])
+        options = ["-O2", "-ffunction-sections", "-fno-crash-diagnostics"]
+        run([clang, *TARGET, *options, "-x", "ir", "-c", ours, "-o", room / "ours.o"])
         support = Path(__file__).resolve().parent / "support.c"
         flags = ["-O2", "-ffreestanding", "-nostdinc", "-fno-builtin", "-Wall", "-Wextra", "-Werror"]
         run([clang, *TARGET, *flags, "-c", support, "-o", room / "support.o"])
