@@ -7,3 +7,4 @@ mod LeftLemmas
 mod EventLemmas
 pub mod UnseenLemmas
 mod Describing
+pub mod LeftNumbers

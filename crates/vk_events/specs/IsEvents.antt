@@ -56,3 +56,7 @@ MayAdd ev row counts fronts = (ns : List Node) × (was : Node → Bool) × (now 
 -- So much may be finished of some that are known, none of them still to be taken.
 abbrev pub MayAdvance : Events → List ℕ → Type 0
 MayAdvance ev fronts = (ns : List Node) × (was : Node → Bool) × (now : Node → Bool) × IsEvents ev ns was [] × ((m : Node) → Contains ns m → IsTrue (was m) → IsTrue (now m)) × AreFronts ns now fronts
+
+-- How many have happened and aren't taken: each that is taken makes them fewer. (profile)
+abbrev pub untaken : Events → ℕ
+untaken ev = length ev.hanging.met.pairs

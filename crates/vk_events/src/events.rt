@@ -1,11 +1,11 @@
-ghost use Rattle.std.specs.Prelude.{◌≡◌, ◌∷◌, ◌++◌, [], List, Bool, OnOk, IfSome, IfNone, IsTrue, Contains, length, false};
+ghost use Rattle.std.specs.Prelude.{◌≡◌, ◌<◌, ◌∷◌, ◌++◌, [], List, Bool, OnOk, IfSome, IfNone, IsTrue, Contains, length, false};
 ghost use Rattle.vk_model.specs.Sync.Node.{Node, nodes};
 ghost use Rattle.vk_model.specs.Run.Runs.{Stage, Name};
 ghost use Rattle.vk_model.specs.Run.CachedRuns.{happening};
 ghost use Rattle.vk_order.specs.NodeViews.{act_of, node_of};
 ghost use Rattle.vk_model.specs.Sync.Edge as edge;
 ghost use Rattle.vk_events.specs.Happens.{AreFronts, IsEvent, is_finished, is_free_of, unseen, freed_by};
-ghost use Rattle.vk_events.specs.IsEvents.{IsEvents, MayFollow, MayAdd, MayAdvance, AreKnown};
+ghost use Rattle.vk_events.specs.IsEvents.{IsEvents, MayFollow, MayAdd, MayAdvance, AreKnown, untaken};
 
 use crate::event::Event;
 use crate::hanging::Hanging;
@@ -90,6 +90,13 @@ impl Events {
         self.hanging.advance(fronts);
     }
 
+    /// How many nodes there are.
+    pub fn node_count(&self) -> usize
+        ensures { (ns : List Node) (finished : Node → Bool) (left : List Node) → IsEvents self.now ns finished left → result ≡ length ns }
+    {
+        self.nodes
+    }
+
     /// Takes the first in reference order of those that have happened. It takes no memory.
     pub fn take_next(&mut self) -> Option<Event>
         requires { AreKnown self.old }
@@ -97,6 +104,7 @@ impl Events {
             → IsEvents self.old ns finished left
             → (n : Node) × (rest : List Node) × (left ≡ n ∷ rest) × IsEvent e ns n
             × IsEvents self.new ns finished rest) }
+        ensures fewer { IfSome result (λ _. untaken self.new < untaken self.old) }
         ensures none { IfNone result ((ns : List Node) (finished : Node → Bool) (left : List Node)
             → IsEvents self.old ns finished left → (left ≡ []) × IsEvents self.new ns finished []) }
     {

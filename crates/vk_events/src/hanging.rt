@@ -117,6 +117,7 @@ impl Hanging {
             → IsHanging self.old.hooks self.old.lacking.items self.old.met counts low high taken
             → IsNext self.old.lacking.items counts taken i
             × IsHanging self.new.hooks self.new.lacking.items self.new.met counts low high (λ j. taken j || j == i)) }
+        ensures fewer { IfSome result (λ _. length self.new.met.pairs < length self.old.met.pairs) }
         ensures none { IfNone result ((self.new ≡ self.old) × ((counts : List (List ℕ)) (low high : ℕ → ℕ) (taken : ℕ → Bool)
             → IsHanging self.old.hooks self.old.lacking.items self.old.met counts low high taken
             → (j : ℕ) → j < length counts → slice_index self.old.lacking.items j ≡ 0 → IsTrue (taken j))) }

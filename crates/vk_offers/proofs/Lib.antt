@@ -6,6 +6,7 @@ pub mod Steps
 pub mod Coming
 mod Waiting
 pub mod PiecesLeft
+pub mod Agreeing
 mod RowsAlone
 mod RowCounts
 mod FrontLemmas

@@ -1,5 +1,5 @@
 -- Laws of what is offered and of what happens: points of an order come one after another, what the host waits for, and where nothing happens.
-use Rattle.std.specs.Prelude.{◌≡◌, ℕ, ◌<◌, true, List, [], ◌∷◌, ◌++◌, length}
+use Rattle.std.specs.Prelude.{◌≡◌, ℕ, ◌<◌, true, List, [], ◌∷◌, ◌++◌, length, Contains}
 use Rattle.vk_model.specs.declared.command.Cmd.{Cmd}
 use Rattle.vk_model.specs.declared.entry.Entry.TheVariants as entry
 use Rattle.vk_model.specs.declared.entry.SemaphoreValue.{SemaphoreValue}
@@ -7,9 +7,12 @@ use Rattle.vk_model.specs.Trace.Point.{Past, Point, Run, entries}
 use Rattle.vk_model.specs.Trace.Structure.{IsOrdered}
 use Rattle.vk_model.specs.Rules.Fault.{IsUnbroken}
 use Rattle.vk_model.specs.Run.Pieces.{pieces}
-use Rattle.vk_model.specs.Run.Runs.{Stage, past_with, may_go}
+use Rattle.vk_model.specs.Run.Runs.{Name, Stage, past_with, may_go}
 use Rattle.vk_model.specs.Run.CachedRuns.{happening}
-use Rattle.vk_offers.specs.IsOffers.{is_run, ComesNext, host_node, is_free_next}
+use Rattle.vk_sync.specs.declared.ready.Piece.{Piece}
+use Rattle.vk_sync.specs.Ready.{ready}
+use Rattle.vk_offers.specs.declared.offers.Offers.{Offers}
+use Rattle.vk_offers.specs.IsOffers.{is_run, ComesNext, IsOffers, host_node, is_free_next}
 
 -- Each point of an ordered past without a fault may come next after those before it.
 abbrev pub OrderComesNext : Type 0
@@ -28,3 +31,7 @@ NothingHappens = (s : Stage) → happening s s ≡ []
 abbrev pub WaitsMayGo : Type 0
 WaitsMayGo = (s : Stage) (ws : List SemaphoreValue) → IsUnbroken (past_with s (entry.Wait ws)) → IsOrdered (past_with s (entry.Wait ws)) → s.count ≡ length (entries s.front.past)
     → may_go s (entry.Wait ws) ≡ is_free_next s.front.past s.done (host_node s.front.past s.count (entry.Wait ws))
+
+-- A piece that is ready in what is offered of a past whose pieces have run so far is ready in all that is (Vulkan, "Execution and Memory Dependencies").
+abbrev pub OffersAgree : Type 0
+OffersAgree = (past : Past) (done : List Name) (one other : Offers) (piece : Piece) → IsOffers one past done → IsOffers other past done → Contains (ready one.ready) piece → Contains (ready other.ready) piece

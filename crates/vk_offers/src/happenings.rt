@@ -6,6 +6,7 @@ ghost use Rattle.vk_model.specs.Run.Runs.{Name, Stage};
 ghost use Rattle.vk_model.specs.Run.CachedRuns.{happening};
 ghost use Rattle.vk_sync.specs.Ready.{ready};
 ghost use Rattle.vk_events.specs.Happens.{IsEvent};
+ghost use Rattle.vk_events.specs.IsEvents.{untaken};
 ghost use Rattle.vk_offers.specs.IsOffers.{ComesNext, name_of};
 ghost use Rattle.vk_offers.specs.IsHappenings.{IsHappenings, AreKnown, MayAdd, MayFinish, happening_at_once};
 ghost use Rattle.vk_offers.specs.Inner.Rows.{Adds, MayAddRows};
@@ -54,6 +55,13 @@ impl<'a> Happenings<'a> {
         &self.offers
     }
 
+    /// How many nodes the points have.
+    pub fn node_count(&self) -> usize
+        ensures { (past : Past) (done : List Name) (left : List Node) → IsHappenings self.now past done left → result ≡ length (nodes past) }
+    {
+        self.events.node_count()
+    }
+
     /// The next point has come, as for `Offers`. All memory that later calls want is taken here. The
     /// only error is want of memory, or of numbers; what comes after it isn't said then.
     pub fn add(&mut self, point: &Point<'a>, pieces: u64) -> Result<(), AllocError>
@@ -83,6 +91,7 @@ impl<'a> Happenings<'a> {
         requires { AreKnown self.old }
         ensures some { IfSome result (λ e. (past : Past) (done : List Name) (left : List Node) → IsHappenings self.old past done left
             → (n : Node) × (rest : List Node) × (left ≡ n ∷ rest) × IsEvent e (nodes past) n × IsHappenings self.new past done rest) }
+        ensures fewer { IfSome result (λ _. untaken self.new.events < untaken self.old.events) }
         ensures none { IfNone result ((past : Past) (done : List Name) (left : List Node) → IsHappenings self.old past done left
             → (left ≡ []) × IsHappenings self.new past done []) }
     {

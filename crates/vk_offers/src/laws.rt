@@ -1,5 +1,5 @@
 //! Laws of what is offered and of what happens, each the contract of a function that does nothing.
-ghost use Rattle.vk_offers.specs.Laws.{OrderComesNext, PointsAreOnQueues, NothingHappens, WaitsMayGo};
+ghost use Rattle.vk_offers.specs.Laws.{OffersAgree, OrderComesNext, PointsAreOnQueues, NothingHappens, WaitsMayGo};
 
 use vk_events::happening_is_unseen;
 use vk_model::{before_is_order, growth_keeps};
@@ -36,3 +36,9 @@ pub fn waits_go()
     growth_keeps();
     before_is_order();
 }
+
+/// What is offered of a past whose pieces have run so far has the same pieces ready, however it came
+/// there.
+pub fn offers_agree()
+    ensures { OffersAgree }
+{}

@@ -8,7 +8,7 @@ mod laws;
 mod offers;
 
 pub use happenings::Happenings;
-pub use laws::{nothing_happens, points_are_on_queues, points_come_next, waits_go};
+pub use laws::{nothing_happens, offers_agree, points_are_on_queues, points_come_next, waits_go};
 pub use offers::{Offers, run_at};
 pub use vk_events::{Event, Range};
 pub use vk_sync::Piece;
