@@ -1,3 +1,7 @@
 mod StretchLemmas
 mod Behind
 mod WritingBack
+mod Subresources
+mod Walking
+mod CatchingUp
+mod Freeing

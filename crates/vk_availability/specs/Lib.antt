@@ -1,3 +1,5 @@
 pub mod Pieces
 pub mod AreLate
 pub mod Touches
+pub mod Happening
+pub mod Inner

@@ -9,7 +9,7 @@ use vk_heap::Region;
 /// How many bytes are taken from a region at a time.
 const CHUNK: usize = 256;
 
-/// Which bytes of a memory object are late. Contracts see that of each byte.
+/// Which bytes of a resource are late. Contracts see that of each byte.
 #[derive(Drop)]
 pub(crate) struct LateBytes {
     bytes: Vec<Option<Late>>,
@@ -75,35 +75,44 @@ impl LateBytes {
         }
     }
 
-    /// So many bytes from byte `at` on become late, of which memory still has what a region has there.
-    pub(crate) fn write_from(&mut self, at: usize, size: usize, region: &Region, writer: Writer)
+    /// So many bytes from byte `at` on become late, of which memory still has what a region has: byte `k`
+    /// of all lies at byte `base + k` of the region.
+    pub(crate) fn write_from(
+        &mut self,
+        at: usize,
+        size: usize,
+        region: &Region,
+        base: u64,
+        writer: Writer,
+    )
         requires room { at + size ≤ length self.old }
-        requires within { at + size ≤ length region.now }
+        requires within { base + (at + size) ≤ length region.now }
         ensures len { length self.new ≡ length self.old }
         ensures bytes { (k : ℕ) → late_in self.new k
-            ≡ (if is_between at (at + size) k then Some (record { writer = writer; value = slice_index region.now k }) else late_in self.old k) }
+            ≡ (if is_between at (at + size) k then Some (record { writer = writer; value = slice_index region.now (base + k) }) else late_in self.old k) }
     {
         let _sizes = (self.bytes.len(), region.size());
         let mut done = 0;
         while done < size {
             let count = CHUNK.min(size - done);
-            self.write_chunk(at + done, count, region, writer);
+            self.write_chunk(at + done, count, region, base, writer);
             done += count;
         }
     }
 
     /// The same of a chunk at most.
-    fn write_chunk(&mut self, at: usize, count: usize, region: &Region, writer: Writer)
+    fn write_chunk(&mut self, at: usize, count: usize, region: &Region, base: u64, writer: Writer)
         requires few { count ≤ 256 }
         requires room { at + count ≤ length self.old }
-        requires within { at + count ≤ length region.now }
+        requires within { base + (at + count) ≤ length region.now }
         ensures len { length self.new ≡ length self.old }
         ensures bytes { (k : ℕ) → late_in self.new k
-            ≡ (if is_between at (at + count) k then Some (record { writer = writer; value = slice_index region.now k }) else late_in self.old k) }
+            ≡ (if is_between at (at + count) k then Some (record { writer = writer; value = slice_index region.now (base + k) }) else late_in self.old k) }
     {
+        let _size = region.size();
         let mut values = [0; CHUNK];
         let chunk = &mut values[..count];
-        region.read(at as u64, chunk);
+        region.read(base + at as u64, chunk);
         self.write(at, chunk, writer);
     }
 

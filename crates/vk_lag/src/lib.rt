@@ -6,15 +6,16 @@
 //!
 //! ```text
 //! let mut lags = Lags::new(alloc);
-//! lags.add(0, region.size())?;
-//! lags.write(0, 4, &[9, 9], Writer { queue: 2, node: 3 });  // memory still has 9 9 there
-//! lags.look(0, 0, &mut bytes);                                 // bytes 4 and 5 read 9
-//! lags.catch_up(0, 0, 16, Due::Of(2));                         // what queue 2 wrote is written back
-//! lags.late(0, 4)                                              // None
+//! lags.add(3, 16)?;                                       // a buffer of 16 bytes, whose id is 3
+//! lags.write_from(3, 4, 2, region, 256, writer);          // it lies from byte 256 of the region on
+//! region.write(260, &[9, 9]);                             // in place already; memory has what was there
+//! lags.look(3, 0, &mut bytes);                            // bytes 4 and 5 as they were
+//! lags.catch_up(3, 0, 16, Due::Of(writer.queue));         // what that queue wrote is written back
+//! lags.late(3, 4)                                         // None
 //! ```
 //!
-//! Room for all bytes of an object is taken by `add`; nothing else wants memory. Contracts see of each
-//! byte of each memory object, by the object's number, whether it is late.
+//! Room for all bytes of a resource is taken by `add`; nothing else wants memory. Contracts see of each
+//! byte of each resource, by the resource's id, whether it is late.
 #![tactic(auto)]
 
 mod bytes;

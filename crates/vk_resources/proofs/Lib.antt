@@ -8,7 +8,6 @@ mod CachedSteps
 mod Commands
 mod WrittenRows
 mod WrittenBytes
-mod RangeBytes
 mod ImageSteps
 pub mod Matching
 pub mod Fitting

@@ -8,5 +8,4 @@ pub mod Passes
 pub mod PassSteps
 pub mod Done
 pub mod Stretches
-pub mod Ranges
 pub mod Inner

@@ -9,7 +9,6 @@ mod images;
 mod passes;
 mod pieces;
 mod pools;
-mod ranges;
 mod resources;
 mod rows;
 mod stretches;

@@ -13,20 +13,20 @@ use vk_image_transfer::{
 use vk_model::Cmd;
 use vk_transfer::{CopyPieces, Fill, Stretch, Update};
 
-/// The bytes that a piece of a command writes: they are of one memory object, and are walked in
-/// stretches. It takes no memory.
+/// The bytes that a piece of a command writes: they are of one resource, and are walked in stretches.
+/// It takes no memory.
 #[derive(Debug, Drop)]
 pub struct Written {
-    /// The number of the memory object.
-    pub object: u64,
-    /// The bytes that are left to be walked.
+    /// The id of the resource.
+    pub resource: u32,
+    /// The bytes that are left to be walked, counted from the first one of the resource.
     pub left: RowStretches,
 }
 
 impl Written {
     /// Takes the next stretch of the bytes that are left; `None` where there are none.
     pub fn next_stretch(&mut self) -> Option<Stretch>
-        ensures object { self.new.object ≡ self.old.object }
+        ensures resource { self.new.resource ≡ self.old.resource }
         ensures next { IsNext result self.old.left self.new.left }
     {
         self.left.next_stretch()
@@ -41,10 +41,10 @@ impl Resources {
     ghost use Rattle.vk_resources.specs.Done.{PieceReady};
     ghost use Rattle.vk_resources.specs.Stretches.{HasWrites, HasPieceWrites};
     ghost use Rattle.vk_resources.specs.Inner.Images.{ClearReady, RegionsReady, MayCopyIn, ImageRowReady};
-    ghost use Rattle.vk_resources.specs.Inner.Steps.{IsPlaced, CopyReady};
+    ghost use Rattle.vk_resources.specs.Inner.Steps.{CopyReady};
     ghost use Rattle.vk_resources.specs.Inner.Works.{IsForImages};
 
-    /// The bytes of memory that the piece of this number of a command writes.
+    /// The bytes of a resource that the piece of this number of a command writes.
     pub fn written(&self, work: &Work<'_>, number: u64) -> Written
         requires { PieceReady self.now work.now number }
         ensures { HasPieceWrites self.now work.now number result }
@@ -57,7 +57,8 @@ impl Resources {
                 word,
             } => {
                 let placed = self.there(*buffer);
-                self.fill_written(placed, filling(placed, *offset, *size, *word), number)
+                let fill = filling(placed, *offset, *size, *word);
+                self.fill_written(*buffer, placed, fill, number)
             }
             Cmd::Update {
                 buffer,
@@ -69,7 +70,7 @@ impl Resources {
                     offset: *offset,
                     bytes: bytes.as_slice(),
                 };
-                self.update_written(placed, &update, number)
+                self.update_written(*buffer, placed, &update, number)
             }
             Cmd::Copy {
                 source,
@@ -79,7 +80,9 @@ impl Resources {
                 let from = self.there(*source);
                 let to = self.there(*destination);
                 match &work.regions {
-                    Regions::OfBuffers(pieces) => self.copy_written(from, to, pieces, number),
+                    Regions::OfBuffers(pieces) => {
+                        self.copy_written(from, *destination, to, pieces, number)
+                    }
                     _ => unreachable!(),
                 }
             }
@@ -88,32 +91,38 @@ impl Resources {
     }
 
     /// What a piece of a fill of a buffer writes.
-    fn fill_written(&self, buffer: Placed, fill: Fill, number: u64) -> Written
-        requires placed { IsPlaced self.now buffer }
-        requires inside { fill.offset + fill.size ≤ buffer.size }
+    fn fill_written(&self, buffer: u32, placed: Placed, fill: Fill, number: u64) -> Written
+        requires placed { flat self.now buffer ≡ Some placed }
+        requires inside { fill.offset + fill.size ≤ placed.size }
         requires piece { 4096 * number < fill.size }
-        ensures { (b : ℕ) → flat self.now b ≡ Some buffer → HasWrites self.now (fill_piece b fill number) result }
+        ensures { HasWrites self.now (fill_piece buffer fill number) result }
     {
-        // A region's size is a whole number of 64 bits, so the places in it are too.
-        let _size = self.memories.region(buffer.object).size();
+        // A buffer's size is a whole number of 64 bits, so the places in it are too.
+        let _size = placed.size;
         Written {
-            object: buffer.object,
-            left: RowStretches::one(fill.stretch(number, buffer.offset)),
+            resource: buffer,
+            left: RowStretches::one(fill.stretch(number, 0)),
         }
     }
 
     /// What a piece of an update of a buffer writes.
-    fn update_written(&self, buffer: Placed, update: &Update<'_>, number: u64) -> Written
-        requires placed { IsPlaced self.now buffer }
-        requires inside { update.now.offset + length update.now.bytes.now ≤ buffer.size }
+    fn update_written(
+        &self,
+        buffer: u32,
+        placed: Placed,
+        update: &Update<'_>,
+        number: u64,
+    ) -> Written
+        requires placed { flat self.now buffer ≡ Some placed }
+        requires inside { update.now.offset + length update.now.bytes.now ≤ placed.size }
         requires piece { 4096 * number < length update.now.bytes.now }
-        ensures { (b : ℕ) → flat self.now b ≡ Some buffer → HasWrites self.now (update_piece b update.now number) result }
+        ensures { HasWrites self.now (update_piece buffer update.now number) result }
     {
-        // A region's size is a whole number of 64 bits, so the places in it are too.
-        let _size = self.memories.region(buffer.object).size();
+        // A buffer's size is a whole number of 64 bits, so the places in it are too.
+        let _size = placed.size;
         Written {
-            object: buffer.object,
-            left: RowStretches::one(update.stretch(number, buffer.offset)),
+            resource: buffer,
+            left: RowStretches::one(update.stretch(number, 0)),
         }
     }
 
@@ -121,20 +130,21 @@ impl Resources {
     fn copy_written(
         &self,
         source: Placed,
-        destination: Placed,
+        destination: u32,
+        placed: Placed,
         pieces: &CopyPieces<'_>,
         number: u64,
     ) -> Written
-        requires destination { IsPlaced self.now destination }
-        requires piece { CopyReady source destination pieces.now number }
-        ensures { (s d : ℕ) → flat self.now d ≡ Some destination → HasWrites self.now (copy_piece s d pieces.now number) result }
+        requires placed { flat self.now destination ≡ Some placed }
+        requires piece { CopyReady source placed pieces.now number }
+        ensures { (s : ℕ) → HasWrites self.now (copy_piece s destination pieces.now number) result }
     {
         let found = pieces.find(number);
-        // A region's size is a whole number of 64 bits, so the places in it are too.
-        let _size = self.memories.region(destination.object).size();
-        let stretch = found.copy.stretch(found.number, destination.offset);
+        // A buffer's size is a whole number of 64 bits, so the places in it are too.
+        let _size = placed.size;
+        let stretch = found.copy.stretch(found.number, 0);
         Written {
-            object: destination.object,
+            resource: destination,
             left: RowStretches::one(stretch),
         }
     }
@@ -161,7 +171,7 @@ impl Resources {
             Cmd::CopyIn { image, .. } => self.copy_in_written(*image, work.rows(), number),
             Cmd::CopyOut { image, buffer, .. } => {
                 let to = self.there(*buffer);
-                self.copy_out_written(*image, to, work.rows(), number)
+                self.copy_out_written(*image, *buffer, to, work.rows(), number)
             }
             Cmd::CopyImage {
                 source,
@@ -180,13 +190,13 @@ impl Resources {
         requires { ClearReady self.now image clear.now.ranges.now number }
         ensures { (m : ImageInfo) → shape_of self.now image ≡ Some m → HasWrites self.now (piece_in (all_cleared image clear.now.color m clear.now.ranges.now) number) result }
     {
-        let at = self.picture(image);
+        // An image's size is a whole number of 64 bits, so the places in it are too.
+        let _size = self.picture(image).size;
         let shape = shape_at(&self.shapes, image);
         let found = clear.find(number, shape);
-        let _size = self.memories.region(at.object).size();
         Written {
-            object: at.object,
-            left: found.clear.stretches(found.number, shape, at.offset),
+            resource: image,
+            left: found.clear.stretches(found.number, shape, 0),
         }
     }
 
@@ -195,14 +205,14 @@ impl Resources {
         requires { MayCopyIn self.now image rows.now number }
         ensures { (b : ℕ) (m : ImageInfo) → shape_of self.now image ≡ Some m → HasWrites self.now (piece_in (all_copied_in b image m rows.now) number) result }
     {
-        let at = self.picture(image);
+        // An image's size is a whole number of 64 bits, so the places in it are too.
+        let _size = self.picture(image).size;
         let shape = shape_at(&self.shapes, image);
         let row = rows.find(number);
-        let _size = self.memories.region(at.object).size();
         let copy = CopyIn { region: row.region };
         Written {
-            object: at.object,
-            left: copy.stretches(row.number, shape, at.offset),
+            resource: image,
+            left: copy.stretches(row.number, shape, 0),
         }
     }
 
@@ -210,21 +220,23 @@ impl Resources {
     fn copy_out_written(
         &self,
         image: u32,
-        buffer: Placed,
+        buffer: u32,
+        placed: Placed,
         rows: &RegionRows<'_>,
         number: u64,
     ) -> Written
-        requires buffer { IsPlaced self.now buffer }
-        requires ready { RegionsReady self.now buffer.size image rows.now number }
-        ensures { (b : ℕ) (m : ImageInfo) → flat self.now b ≡ Some buffer → shape_of self.now image ≡ Some m → HasWrites self.now (piece_in (all_copied_out image b m rows.now) number) result }
+        requires placed { flat self.now buffer ≡ Some placed }
+        requires ready { RegionsReady self.now placed.size image rows.now number }
+        ensures { (m : ImageInfo) → shape_of self.now image ≡ Some m → HasWrites self.now (piece_in (all_copied_out image buffer m rows.now) number) result }
     {
+        // A buffer's size is a whole number of 64 bits, so the places in it are too.
+        let _size = placed.size;
         let shape = shape_at(&self.shapes, image);
         let row = rows.find(number);
-        let _size = self.memories.region(buffer.object).size();
         let copy = CopyOut { region: row.region };
         Written {
-            object: buffer.object,
-            left: copy.stretches(row.number, shape, buffer.offset),
+            resource: buffer,
+            left: copy.stretches(row.number, shape, 0),
         }
     }
 
@@ -233,13 +245,13 @@ impl Resources {
         requires { ImageRowReady self.now source destination row.region row.number }
         ensures { (m : ImageInfo) → shape_of self.now destination ≡ Some m → HasWrites self.now (piece_in (copy_image_pieces source destination m row.region) row.number) result }
     {
-        let at = self.picture(destination);
+        // An image's size is a whole number of 64 bits, so the places in it are too.
+        let _size = self.picture(destination).size;
         let shape = shape_at(&self.shapes, destination);
-        let _size = self.memories.region(at.object).size();
         let copy = CopyImage { region: row.region };
         Written {
-            object: at.object,
-            left: copy.stretches(row.number, shape, at.offset),
+            resource: destination,
+            left: copy.stretches(row.number, shape, 0),
         }
     }
 }

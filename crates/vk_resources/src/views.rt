@@ -1,9 +1,11 @@
 ghost use Rattle.std.specs.Prelude.{◌≡◌, option_map};
+ghost use Rattle.std.specs.Option.{option_copied};
 ghost use Rattle.vk_resources.specs.Held.{shape_of};
 
 use crate::resources::{Placed, Resources};
 use std::collections::BTreeMap;
 use vk_backing::Backing;
+use vk_image_tiles::Shape;
 use vk_memory::Memories;
 use vk_model::Kind;
 
@@ -27,6 +29,13 @@ impl Resources {
         ensures { result.now.entries ≡ self.now.resources }
     {
         &self.resources
+    }
+
+    /// The shape of an image, by its id; none where there is no such image.
+    pub fn shape(&self, id: u32) -> Option<&Shape>
+        ensures { option_copied result ≡ shape_of self.now id }
+    {
+        self.shapes.get(&id)
     }
 
     /// How the texels of an image lie, by its id; none where there is no such image.

@@ -1,28 +1,34 @@
-use Rattle.std.proofs.Common.{◌≤◌, ◌+◌, ℕ, Bool, ◌==◌, length, ap, sym, ◌∙◌, subst, arith, Some}
-use Rattle.std.specs.Prelude.{if◌then◌else◌, slice_index}
-use Rattle.vk_image_transfer.specs.Stretches.{is_among}
-use Rattle.vk_memory.specs.MemoryState.{region_of}
-use Rattle.vk_lag.specs.Lags.{object_in, late_at}
-use Rattle.vk_availability.proofs.Behind.{becomes_behind}
-use Rattle.vk_availability.proofs.StretchLemmas.{ends_inside, all_walked}
+use Rattle.std.proofs.Common.{◌≡◌, length, ap, ◌∙◌, arith}
+use Rattle.vk_memory.specs.MemoryState.{MemoryState, region_of}
+use Rattle.vk_resources.specs.Held.{placed}
+use Rattle.vk_lag.specs.Lags.{late_at}
+use Rattle.vk_availability.proofs.Behind.{becomes_behind, spot_here, late_there}
 use Rattle.vk_availability.proofs.pieces.make_late.Goals as goal
 
-pub write_from-requires-clause-room : goal.write_from-requires-clause-room
-write_from-requires-clause-room c =
-    let inside = ends_inside c.in-Some.stretch c.loop-stretch.written.left c.next_stretch.new.self.left (length (region_of c.args.memories.now c.args.written.object)) c.in-Some.ensures.next (λ k among. c.requires.inside k (c.loop-stretch.invariant.among k among)) in
+pub make_late_in-requires-clause-room : goal.make_late_in-requires-clause-room
+make_late_in-requires-clause-room c = λ k among.
+    let inside = c.requires.inside k among in
     let room = c.requires.room in
-    let same = c.loop-stretch.invariant.room c.args.written.object in
-    subst (λ (n : ℕ). c.in-Some.stretch.at + c.in-Some.stretch.size ≤ length (object_in c.loop-stretch.lags n)) (sym (c.in-Some.ensures.object ∙ c.loop-stretch.invariant.object)) (omega (arith, inside, room, same))
+    omega (arith, inside, room)
 
-pub write_from-requires-clause-within : goal.write_from-requires-clause-within
-write_from-requires-clause-within c =
-    let inside = ends_inside c.in-Some.stretch c.loop-stretch.written.left c.next_stretch.new.self.left (length (region_of c.args.memories.now c.args.written.object)) c.in-Some.ensures.next (λ k among. c.requires.inside k (c.loop-stretch.invariant.among k among)) in
-    let is = ap length c.region-region.ensures in
-    omega (arith, inside, is)
+pub make_late_in-requires-clause-inside : goal.make_late_in-requires-clause-inside
+make_late_in-requires-clause-inside c = λ k among.
+    let inside = c.requires.inside k among in
+    let room = c.in-Some.ensures.inside.room in
+    let spot = spot_here (placed c.args.resources.now c.args.written.resource) c.in-Some.spot c.requires.place c.in-Some.ensures.there c.requires.here in
+    let size : c.in-Some.spot.size ≡ c.requires.place.size = ap (λ z. z.size) spot in
+    let long : length c.region-region.result.now ≡ length (region_of c.args.resources.now.memory c.in-Some.spot.memory) = ap length (c.region-region.ensures ∙ ap (λ (m : MemoryState). region_of m c.in-Some.spot.memory) c.memories.ensures) in
+    omega (arith, inside, room, size, long)
+
+pub returns-clause-bytes : goal.returns-clause-bytes
+returns-clause-bytes c = λ p here id k.
+    c.make_late_in.ensures.bytes id k
+    ∙ late_there c.args.resources.now.memory c.region-region.result.now c.in-Some.spot (placed c.args.resources.now c.args.written.resource) p (c.region-region.ensures ∙ ap (λ (m : MemoryState). region_of m c.in-Some.spot.memory) c.memories.ensures) c.in-Some.ensures.there here
+    c.args.written.resource c.args.written.left c.args.writer id k (late_at c.args.lags.now id k)
 
 pub returns-clause-behind : goal.returns-clause-behind
-returns-clause-behind c = becomes_behind c.args.memories.now c.args.lags.now c.loop-stretch.lags c.args.written c.args.writer
-    (λ number k.
-    c.loop-stretch.invariant.bytes number k
-    ∙ ap (λ (b : Bool). if b then Some (record { writer = c.args.writer; value = slice_index (region_of c.args.memories.now c.args.written.object) k }) else late_at c.args.lags.now number k)
-    (all_walked (c.args.written.object == number) (is_among c.args.written.left k) (is_among c.loop-stretch.written.left k) (c.in_default.ensures.next.1 k)))
+returns-clause-behind c = becomes_behind c.args.resources.now c.args.lags.now c.make_late_in.new.lags c.args.written c.args.writer c.requires.place c.requires.here
+    (λ id k.
+    c.make_late_in.ensures.bytes id k
+    ∙ late_there c.args.resources.now.memory c.region-region.result.now c.in-Some.spot (placed c.args.resources.now c.args.written.resource) c.requires.place (c.region-region.ensures ∙ ap (λ (m : MemoryState). region_of m c.in-Some.spot.memory) c.memories.ensures)
+    c.in-Some.ensures.there c.requires.here c.args.written.resource c.args.written.left c.args.writer id k (late_at c.args.lags.now id k))

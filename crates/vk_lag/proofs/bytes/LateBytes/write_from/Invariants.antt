@@ -8,7 +8,7 @@ abbrev pub invariant-loop-done : goal.invariant-loop-done
 invariant-loop-done l = record {
   most : l.done ≤ l.size;
   len : length l.self ≡ length l.initial.self;
-  bytes : (k : ℕ) → late_in l.self k ≡ (if is_between l.at (l.at + l.done) k then Some (record { writer = l.writer; value = slice_index l.region k }) else late_in l.initial.self k);
+  bytes : (k : ℕ) → late_in l.self k ≡ (if is_between l.at (l.at + l.done) k then Some (record { writer = l.writer; value = slice_index l.region (l.base + k) }) else late_in l.initial.self k);
 }
 
 abbrev pub decreases-loop-done : goal.decreases-loop-done

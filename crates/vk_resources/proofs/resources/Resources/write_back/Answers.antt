@@ -1,6 +1,6 @@
-use Rattle.std.proofs.Common.{subst, sym, ◌∙◌, true}
+use Rattle.std.proofs.Common.{subst, sym, ◌∙◌}
 use Rattle.vk_resources.specs.Held.{IsConsistent}
-use Rattle.vk_resources.proofs.RestThrough.{rest_any, rest_same}
+use Rattle.vk_resources.proofs.RestThrough.{rest_any}
 use Rattle.vk_resources.proofs.WritingBack.{may_flush, flushed_back}
 use Rattle.vk_resources.proofs.resources.Resources.write_back.Goals as goal
 

@@ -10,15 +10,15 @@ pub there-placed-requires : goal.there-placed-requires
 there-placed-requires c = fill_there c.args.self.now c.args.work.now c.args.number c.requires c.in-Fill.buffer c.in-Fill.offset c.in-Fill.word c.in-Fill.size (sym c.work.view_is ∙ c.in-Fill.is)
 
 pub fill_written-requires-clause-inside : goal.fill_written-requires-clause-inside
-fill_written-requires-clause-inside c = (fill_may c.args.self.now c.args.work.now c.args.number c.requires c.in-Fill.buffer c.in-Fill.offset c.in-Fill.word c.in-Fill.size (sym c.work.view_is ∙ c.in-Fill.is) c.there-placed.result c.there-placed.ensures c.filling.result c.filling.ensures).1
+fill_written-requires-clause-inside c = (fill_may c.args.self.now c.args.work.now c.args.number c.requires c.in-Fill.buffer c.in-Fill.offset c.in-Fill.word c.in-Fill.size (sym c.work.view_is ∙ c.in-Fill.is) c.there-placed.result c.there-placed.ensures c.filling-fill.result c.filling-fill.ensures).1
 
 pub fill_written-requires-clause-piece : goal.fill_written-requires-clause-piece
-fill_written-requires-clause-piece c = (fill_may c.args.self.now c.args.work.now c.args.number c.requires c.in-Fill.buffer c.in-Fill.offset c.in-Fill.word c.in-Fill.size (sym c.work.view_is ∙ c.in-Fill.is) c.there-placed.result c.there-placed.ensures c.filling.result c.filling.ensures).2
+fill_written-requires-clause-piece c = (fill_may c.args.self.now c.args.work.now c.args.number c.requires c.in-Fill.buffer c.in-Fill.offset c.in-Fill.word c.in-Fill.size (sym c.work.view_is ∙ c.in-Fill.is) c.there-placed.result c.there-placed.ensures c.filling-fill.result c.filling-fill.ensures).2
 
 pub returns-in-Fill : goal.returns-in-Fill
 returns-in-Fill c = λ past ms m fits at.
-    subst (λ (xs : List ByteWrite). HasWrites c.args.self.now xs c.fill_written.result) (fill_is c.args.self.now c.args.work.now c.args.number c.requires c.in-Fill.buffer c.in-Fill.offset c.in-Fill.word c.in-Fill.size (sym c.work.view_is ∙ c.in-Fill.is) c.there-placed.result c.there-placed.ensures c.filling.result c.filling.ensures past ms m.live at)
-    (c.fill_written.ensures c.in-Fill.buffer c.there-placed.ensures)
+    subst (λ (xs : List ByteWrite). HasWrites c.args.self.now xs c.fill_written.result) (fill_is c.args.self.now c.args.work.now c.args.number c.requires c.in-Fill.buffer c.in-Fill.offset c.in-Fill.word c.in-Fill.size (sym c.work.view_is ∙ c.in-Fill.is) c.there-placed.result c.there-placed.ensures c.filling-fill.result c.filling-fill.ensures past ms m.live at)
+    c.fill_written.ensures
 
 -- ---- updates
 
@@ -40,7 +40,7 @@ returns-in-Update c = λ past ms m fits at.
     subst (λ (xs : List ByteWrite). HasWrites c.args.self.now xs c.update_written.result)
     (update_is c.args.self.now c.args.work.now c.args.number c.requires c.in-Update.buffer c.in-Update.offset c.in-Update.bytes (sym c.work.view_is ∙ c.in-Update.is) c.there-placed-in-Update.result c.there-placed-in-Update.ensures
     (record { offset = c.in-Update.offset; bytes = c.as_slice.result }) refl c.as_slice.ensures past ms m.live at)
-    (c.update_written.ensures c.in-Update.buffer c.there-placed-in-Update.ensures)
+    c.update_written.ensures
 
 -- ---- copies
 
@@ -60,4 +60,4 @@ returns-in-OfBuffers c = λ past ms m fits at.
     subst (λ (xs : List ByteWrite). HasWrites c.args.self.now xs c.copy_written.result)
     (copy_is c.args.self.now c.args.work.now c.args.number c.requires c.in-Copy.source c.in-Copy.destination c.in-Copy.regions (sym c.work.view_is ∙ c.in-Copy.is) c.in-OfBuffers.pieces
     (regions_of c.work.inside.command.now c.work.inside.regions c.in-Copy.source c.in-Copy.destination c.in-Copy.regions c.in-OfBuffers.pieces c.work.invariant c.in-Copy.is c.in-OfBuffers.is) past ms at)
-    (c.copy_written.ensures c.in-Copy.source c.in-Copy.destination c.there-to.ensures)
+    (c.copy_written.ensures c.in-Copy.source)

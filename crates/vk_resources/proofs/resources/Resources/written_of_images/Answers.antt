@@ -31,7 +31,7 @@ copy_out_written-requires-clause-ready c = out_ready c.args.self.now c.args.work
 
 pub returns-in-CopyOut : goal.returns-in-CopyOut
 returns-in-CopyOut c = out_found c.args.self.now c.args.work.now c.args.number c.requires.ready c.in-CopyOut.image c.in-CopyOut.buffer c.in-CopyOut.layout c.in-CopyOut.regions c.rows-in-CopyOut.result.now (sym c.work.view_is ∙ c.in-CopyOut.is) (sym c.rows-in-CopyOut.ensures ∙ ap regions_of (sym c.work.view_is ∙ c.in-CopyOut.is))
-    c.copy_out_written.result (λ n shaped. c.copy_out_written.ensures c.in-CopyOut.buffer n c.there-to.ensures shaped)
+    c.copy_out_written.result c.copy_out_written.ensures
 
 -- ---- copies between images
 

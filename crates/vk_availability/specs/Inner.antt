@@ -1,0 +1,2 @@
+-- What only the contracts within the crate cite.
+pub mod CatchingUp
