@@ -25,7 +25,7 @@ becomes_then old mid new first second resources shapes a b m has c was is =
     b (first m) (λ e there. a m has e (was_there old mid resources shapes e there) there) c (was_there mid old (sym resources) (sym shapes) c was) is
 
 module _ (past : Past) (moved : List ℕ) (x : Entry) where
-  memory_more : (steps more : List Step) (m : HostMemory) → memory_after past moved x (steps ++ more) m ≡ memory_after past moved x more (memory_after past moved x steps m)
+  pub memory_more : (steps more : List Step) (m : HostMemory) → memory_after past moved x (steps ++ more) m ≡ memory_after past moved x more (memory_after past moved x steps m)
   memory_more [] more m = refl
   memory_more (RunPiece n ∷ steps) more m = memory_more steps more (memory_after_piece (named_piece past n) m)
   memory_more (CopyPart k ∷ steps) more m = memory_more steps more m

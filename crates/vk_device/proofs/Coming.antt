@@ -60,7 +60,8 @@ use Rattle.vk_device.proofs.Staying.{later_fits}
 use Rattle.vk_device.specs.declared.device.Device.{Device}
 use Rattle.vk_device.specs.Inner.Clean.{IsClean}
 use Rattle.vk_device.specs.Inner.Fits.{FitsAction, AllFit}
-use Rattle.vk_device.specs.Inner.Ready.{HostDone, CommandFits, PrepareReady}
+use Rattle.vk_device.specs.Coming.{CommandFits, PrepareReady}
+use Rattle.vk_device.specs.Inner.Ready.{HostDone}
 use Rattle.vk_device.specs.Led.{Led, AreWorks, IsSoundTrace}
 use Rattle.vk_device.specs.Passes.{HasPasses, parts_begun}
 use Rattle.vk_device.proofs.KeptPasses.{passes_stay}
@@ -76,7 +77,7 @@ past_more past points i p is lt =
     ap (λ (l : List AnyPoint). past_after past l) (take_at_read points i p lt).1 ∙ fold-append add past (take i points) (get_or points i p ∷ [])
     ∙ ap (λ (q : AnyPoint). point_of q ∷ past_after past (take i points)) (sym is)
 
-grown : (past : Past) (points : List AnyPoint) → (newer : Past) × (past_after past points ≡ newer ++ past)
+pub grown : (past : Past) (points : List AnyPoint) → (newer : Past) × (past_after past points ≡ newer ++ past)
 grown past [] = ([], refl)
 grown past (p ∷ points) = let rest = grown (point_of p ∷ past) points in (rest.0 ++ point_of p ∷ [], rest.1 ∙ sym (append_assoc rest.0 (point_of p ∷ []) past))
 
@@ -116,7 +117,7 @@ quiet_points past base newer points long each whole i =
 live_stays : (past all : Past) → entries all ≡ entries past → (i : ℕ) → live all i ≡ live past i
 live_stays past all same i = ap (λ (l : List Entry). if list_any (λ x. among i (ended_by x)) l then None else find (λ x. holds (made_by x) (λ j. i == j)) l) same
 
-stands_stay : (past all : Past) (r : Held) → entries all ≡ entries past → Stands past r → Stands all r
+pub stands_stay : (past all : Past) (r : Held) → entries all ≡ entries past → Stands past r → Stands all r
 stands_stay past all r same m = record { live = matches_same (live past) (live all) r (live_stays past all same) m.live }
 
 alive_stays : (past all : Past) (c : Cmd) → entries all ≡ entries past → NamesLive past c → NamesLive all c
@@ -178,7 +179,7 @@ applied_count s n (entry.Pass d) xs = refl
 applied_count s n (entry.EndPass d kept lost) xs = refl
 applied_count s n _ xs = refl
 
-applied_done : (s : Stage) (n : ℕ) (x : Entry) (xs : List Entry) → (applied s n x xs).done ≡ s.done
+pub applied_done : (s : Stage) (n : ℕ) (x : Entry) (xs : List Entry) → (applied s n x xs).done ≡ s.done
 applied_done s n (entry.Pass d) xs = refl
 applied_done s n (entry.EndPass d kept lost) xs = refl
 applied_done s n _ xs = refl
@@ -232,7 +233,7 @@ module _ (t : List Entry) (e : ℕ) (x : Entry) (f : Front) (r : Held) (h : IsCo
     abbrev past : Past
     past = past_after f.past (take i points)
 
-    newer_at : (newer : Past) × (order t ≡ newer ++ point_of p ∷ past)
+    pub newer_at : (newer : Past) × (order t ≡ newer ++ point_of p ∷ past)
     newer_at =
         let later = split_at f.past points (i + 1) in
         (h.newer ++ later.0, h.whole ∙ ap (λ (l : Past). h.newer ++ l) (sym are ∙ later.1 ∙ ap (λ (l : Past). later.0 ++ l) (past_more f.past points i p is lt)) ∙ sym (append_assoc h.newer later.0 (point_of p ∷ past)))

@@ -121,7 +121,7 @@ module _ (e : ℕ) (past : Past) (x : Entry) (clean : IsClean (host e x ∷ past
   made_same b y is = made_next past (host e x) clean b y is
 
   -- what is live then and was made is live before
-  lived : (b : ℕ) (y : Entry) → IsTrue (is_some (made past b)) → live (host e x ∷ past) b ≡ Some y → live past b ≡ Some y
+  pub lived : (b : ℕ) (y : Entry) → IsTrue (is_some (made past b)) → live (host e x ∷ past) b ≡ Some y → live past b ≡ Some y
   lived b y there is = go (made past b) refl there
     where
       unended : (t u : Bool) → (if t || u then None else made (host e x ∷ past) b) ≡ Some y → (u ≡ false) × (made (host e x ∷ past) b ≡ Some y)
@@ -136,7 +136,7 @@ module _ (e : ℕ) (past : Past) (x : Entry) (clean : IsClean (host e x ∷ past
           rw (parts.0, at) (sym (made_same b z at) ∙ parts.1)
 
   module _ (old new : Held) (m : MatchesLive past old) (after : MatchesLive (host e x ∷ past) new) where
-    was_there : (c : Byte) → IsTrue (is_made past c) → IsThere new c → IsThere old c
+    pub was_there : (c : Byte) → IsTrue (is_made past c) → IsThere new c → IsThere old c
     was_there c made_it there =
         let l = where_lies new c there in
         let k = live_of_placed (live (host e x ∷ past)) new (resource_at c) l.place after l.here in
@@ -152,7 +152,7 @@ module _ (e : ℕ) (past : Past) (x : Entry) (clean : IsClean (host e x ∷ past
         })
 
   -- only a resource that it makes is new
-  none_new : (new : Held) → MatchesLive (host e x ∷ past) new → ((i : ℕ) (y : BufferInfo) → x ≡ entry.Buffer i y → ⊥) → ((i : ℕ) (y : ImageInfo) → x ≡ entry.Image i y → ⊥) → (c : Byte) → IsThere new c → is_made past c ≡ false → ⊥
+  pub none_new : (new : Held) → MatchesLive (host e x ∷ past) new → ((i : ℕ) (y : BufferInfo) → x ≡ entry.Buffer i y → ⊥) → ((i : ℕ) (y : ImageInfo) → x ≡ entry.Image i y → ⊥) → (c : Byte) → IsThere new c → is_made past c ≡ false → ⊥
   none_new new m other image c there unmade =
       let l = where_lies new c there in
       let k = live_of_placed (live (host e x ∷ past)) new (resource_at c) l.place m l.here in
@@ -162,14 +162,14 @@ module _ (e : ℕ) (past : Past) (x : Entry) (clean : IsClean (host e x ∷ past
       unmade
 
 -- what is there was made
-there_made : (past : Past) (r : Held) → MatchesLive past r → (c : Byte) → IsThere r c → is_made past c ≡ true
+pub there_made : (past : Past) (r : Held) → MatchesLive past r → (c : Byte) → IsThere r c → is_made past c ≡ true
 there_made past r m c there =
     let l = where_lies r c there in
     let k = live_of_placed (live past) r (resource_at c) l.place m l.here in
     made_some (made past (resource_at c)) k.resource (live_made resource_in past (resource_at c) k.resource (resource_of_placed (live past) (resource_at c) l.place k))
 
 -- a byte of a new resource is what memory held there
-new_cell : (past : Past) (moved : List ℕ) (new : Held) (x : Entry) (atoms : List ℕ) (c : Byte) (cell : Cell) → HasCell new c cell → (((i : ℕ) (y : BufferInfo) → x ≡ entry.Buffer i y → ⊥) → ((i : ℕ) (y : ImageInfo) → x ≡ entry.Image i y → ⊥) → ⊥) → HasCell new c (after_host past moved x c (if in_atoms (touched_by x) atoms c then turned_over cell else cell))
+pub new_cell : (past : Past) (moved : List ℕ) (new : Held) (x : Entry) (atoms : List ℕ) (c : Byte) (cell : Cell) → HasCell new c cell → (((i : ℕ) (y : BufferInfo) → x ≡ entry.Buffer i y → ⊥) → ((i : ℕ) (y : ImageInfo) → x ≡ entry.Image i y → ⊥) → ⊥) → HasCell new c (after_host past moved x c (if in_atoms (touched_by x) atoms c then turned_over cell else cell))
 new_cell past moved new (entry.Buffer i y) atoms c cell has made = has
 new_cell past moved new (entry.Pool i x) atoms c cell has made = absurd (made (λ i y e. absurd cc) (λ i y e. absurd cc))
 new_cell past moved new (entry.Image i x) atoms c cell has made = has

@@ -1,29 +1,30 @@
 pub mod Unbroken
 pub mod CleanImages
 mod CleanPools
-mod Clean
+pub mod Clean
 mod Limits
-mod Following
+pub mod Following
 mod Staying
 mod Sources
-mod Running
-mod Picking
+pub mod Running
+pub mod Picking
 mod PassStates
 mod PassRules
 mod PassPasts
 mod PassStands
 mod PassBytes
 mod PassCaches
-mod KeptPasses
-mod Becoming
+pub mod KeptPasses
+pub mod Becoming
 mod Copying
 mod PlainEntries
 mod Changing
 mod PassParts
-mod Coming
+pub mod Coming
 mod Touching
 mod Resting
-mod Entering
-mod WholeEntries
-mod Allocating
+pub mod Entering
+pub mod WholeEntries
+pub mod Allocating
+pub mod TracePicks
 pub mod WholeTraces

@@ -1,5 +1,5 @@
 -- What a scheduler picks before an entry, turn by turn.
-use Rattle.std.proofs.Common.{◌≡◌, ℕ, zero, suc, ◌+◌, ◌<◌, ◌≤◌, ◌%◌, List, [], ◌∷◌, ◌++◌, map, length, Bool, true, false, not, ◌||◌, eq-eqb, ◌==◌, IsTrue, refl, ap, sym, ◌∙◌, subst, arith, append-nil, append_assoc, length-append, nat_le, Option, Some, None}
+use Rattle.std.proofs.Common.{◌≡◌, ℕ, zero, suc, pred, ◌+◌, ◌<◌, ◌≤◌, ◌%◌, List, [], ◌∷◌, ◌++◌, map, length, Bool, true, false, not, ◌||◌, eq-eqb, ◌==◌, IsTrue, refl, ap, sym, ◌∙◌, subst, arith, append-nil, append_assoc, length-append, nat_le, Option, Some, None}
 use Rattle.std.proofs.lemmas.List.{length-map}
 use Rattle.std.proofs.lemmas.List.FromFn.{length-range_with_len}
 use Rattle.std.proofs.lemmas.List.Sums.{length-filter, count_by-le-length}
@@ -21,9 +21,10 @@ use Rattle.vk_laws.specs.DirectRuns.{DirectRunsAreRuns}
 use Rattle.vk_laws.specs.PickedRuns.{OptionsAreThere}
 use Rattle.vk_device.specs.declared.device.Device.{Device}
 use Rattle.vk_backing.specs.Passing as backing
-use Rattle.vk_device.specs.Led.{Led, IsBefore, MayRun, HasRun, MayCopy, HasCopied}
+use Rattle.vk_device.specs.Led.{Led, IsBefore, MayRun, HasRun, MayCopy, HasCopied, RunBecomes}
 use Rattle.vk_device.specs.Becomes.{Becomes, memory_after}
-use Rattle.vk_device.specs.Inner.Ready.{Waited, MayAsk, Goes, Picks, PicksBecome, RunBecomes, option_count}
+use Rattle.vk_device.specs.Asking.{Waited, MayAsk, Goes, option_count}
+use Rattle.vk_device.specs.Inner.Ready.{Picks, PicksBecome}
 use Rattle.vk_device.proofs.Becoming.{becomes_same, cells_become, steps_become}
 use Rattle.vk_resources.specs.PassSteps.{KeepsCells}
 
@@ -72,7 +73,7 @@ module _ (answer : List ℕ → ℕ → ℕ) (next : List ℕ → ℕ → List �
         let parts = length-map (parts_left s) (λ k. Take (CopyPart k)) in
         omega (arith, all, pieces, parts)
 
-    turn_length : length (options answer next s x) ≡ option_count steps_at (may_go s x)
+    pub turn_length : length (options answer next s x) ≡ option_count steps_at (may_go s x)
     turn_length = ap (λ (cs : List Choice). length cs) options_are ∙ length-append (pieces_of ++ parts_of) (entry_of (may_go s x)) ∙ go (may_go s x)
       where
         go : (b : Bool) → length (pieces_of ++ parts_of) + length (entry_of b) ≡ option_count steps_at b
@@ -92,7 +93,7 @@ module _ (answer : List ℕ → ℕ → ℕ) (next : List ℕ → ℕ → List �
         (get_right pieces_of parts_of j place (Take (CopyPart part)) (is ∙ ap (λ (n : ℕ). n + j) (sym (length-map (offered s.front.past s.done) (λ n. Take (RunPiece n)))))
         (slice_get-map (λ k. Take (CopyPart k)) (parts_left s) j ∙ ap (λ (o : Option ℕ). option_map (λ k. Take (CopyPart k)) o) at))
 
-    turn_go : may_go s x ≡ true → (place : ℕ) → place ≡ steps_at → slice_get (options answer next s x) place ≡ Some Go
+    pub turn_go : may_go s x ≡ true → (place : ℕ) → place ≡ steps_at → slice_get (options answer next s x) place ≡ Some Go
     turn_go may place at =
         ap (λ (cs : List Choice). slice_get cs place) (options_are ∙ ap (λ (b : Bool). (pieces_of ++ parts_of) ++ entry_of b) may)
         ∙ get_seam (pieces_of ++ parts_of) Go place (at ∙ sym steps_length)
@@ -120,7 +121,7 @@ module _ (answer : List ℕ → ℕ → ℕ) (next : List ℕ → ℕ → List �
       picks_are fuel s held x ∙ ap (λ (o : Option Choice). after_choice fuel s held x o) (ap (λ (m : ℕ). slice_get (options answer next s x) (pick_of answer next held m)) (sym size) ∙ at)
       ∙ ap (λ (m : ℕ). onward (step ∷ []) (picks answer next fuel (stepped step s) (held_after_step answer next step (held_after answer next held m)) x)) (sym size)
 
-  picks_entry : (fuel : ℕ) (s : Stage) (held : List ℕ) (x : Entry) (n : ℕ) → n ≡ length (options answer next s x) → slice_get (options answer next s x) (pick_of answer next held n) ≡ Some Go
+  pub picks_entry : (fuel : ℕ) (s : Stage) (held : List ℕ) (x : Entry) (n : ℕ) → n ≡ length (options answer next s x) → slice_get (options answer next s x) (pick_of answer next held n) ≡ Some Go
       → picks answer next (suc fuel) s held x ≡ record { steps = []; stage = s; held = held_after answer next held n }
   picks_entry fuel s held x n size at =
       picks_are fuel s held x ∙ ap (λ (o : Option Choice). after_choice fuel s held x o) (ap (λ (m : ℕ). slice_get (options answer next s x) (pick_of answer next held m)) (sym size) ∙ at)
@@ -163,6 +164,10 @@ module _ (answer : List ℕ → ℕ → ℕ) (next : List ℕ → ℕ → List �
     pub whole : before_entry answer next s first x ≡ onward answer next so_far (picks answer next fuel (record s { done = done; copied = copied }) held x)
     pub bytes : (moved : List ℕ) → Becomes d0.resources d.resources (memory_after s.front.past moved x so_far)
 
+  -- the steps so far, with the pieces that have run and the parts that were copied
+  abbrev pub shape : {t : List Entry} {steps : List Step} {s : Stage} {d0 : Device} {first : List ℕ} {x : Entry} {d : Device} {held : List ℕ} → Turn t steps s d0 first x d held → List Step × List Name × List ℕ
+  shape turn = (turn.so_far, turn.done, turn.copied)
+
   -- whatever run has led to the device before
   abbrev pub Turns : Device → List ℕ → Entry → Device → List ℕ → Type 0
   Turns d0 first x d held = (t : List Entry) (steps : List Step) (s : Stage) (xs : List Entry) → IsBefore t steps s x xs d0 → Turn t steps s d0 first x d held
@@ -178,6 +183,10 @@ module _ (answer : List ℕ → ℕ → ℕ) (next : List ℕ → ℕ → List �
     whole = refl;
     bytes = λ moved. becomes_same d.resources;
   }
+
+  pub first_shape : (d : Device) (held : List ℕ) (x : Entry) (t : List Entry) (steps : List Step) (s : Stage) (xs : List Entry) (is : IsBefore t steps s x xs d) → shape (first_turn d held x t steps s xs is) ≡ ([], s.done, s.copied)
+  unfolding first_turn
+  first_shape d held x t steps s xs is = refl
 
   module _ (t : List Entry) (steps : List Step) (s : Stage) (xs : List Entry) (d0 : Device) (first : List ℕ) (x : Entry) (is : IsBefore t steps s x xs d0) (d : Device) (held : List ℕ) (turn : Turn t steps s d0 first x d held) where
     abbrev now : Stage
@@ -245,16 +254,11 @@ module _ (answer : List ℕ → ℕ → ℕ) (next : List ℕ → ℕ → List �
       size : option_count (pieces + parts) goes ≡ length (options answer next now x)
       size = ap (λ (n : ℕ). option_count n goes) steps_are ∙ ap (λ (b : Bool). option_count (steps_at answer next now x) b) may ∙ sym (turn_length answer next now x)
 
-      -- the entry is picked
-      pub entry_picked : DirectRunsAreRuns → OptionsAreThere → pieces + parts ≤ picked → Picks answer next t steps s first x d held' × PicksBecome answer next s first x d0 d
-      entry_picked runs there past_all = (
-        subst Leads (sym all) (subst (λ (l : List Step). Led t (steps ++ l) now d) (sym (append-nil turn.so_far)) turn.led, held_is, sym may ∙ chosen.0),
-        λ moved. subst (λ (p : Picked). Becomes d0.resources d.resources (memory_after s.front.past moved x p.steps)) (sym all) (subst (λ (l : List Step). Becomes d0.resources d.resources (memory_after s.front.past moved x l)) (sym (append-nil turn.so_far)) (turn.bytes moved)),
-      )
+      -- then that is all that is picked before it
+      pub entry_whole : DirectRunsAreRuns → OptionsAreThere → pieces + parts ≤ picked
+          → (before_entry answer next s first x ≡ record { steps = turn.so_far; stage = record s { done = turn.done; copied = turn.copied }; held = held' }) × (held' ≡ (before_entry answer next s first x).held) × IsTrue (may_go (before_entry answer next s first x).stage x)
+      entry_whole runs there past_all = (whole, ap (λ (p : Picked). p.held) (sym whole), subst (λ (p : Picked). IsTrue (may_go p.stage x)) (sym whole) (sym may ∙ chosen.0))
         where
-          Leads : Picked → Type 0
-          Leads p = Led t (steps ++ p.steps) p.stage d × (held' ≡ p.held) × IsTrue (may_go p.stage x)
-
           some : 0 < option_count (pieces + parts) goes
           some = let n = there answer next t (steps ++ turn.so_far) now x xs (runs t (steps ++ turn.so_far) now _ turn.led.run) is.sound.faultless is.next in rw size n
 
@@ -272,33 +276,39 @@ module _ (answer : List ℕ → ℕ → ℕ) (next : List ℕ → ℕ → List �
           last zero lt = absurd (omega (arith, lt))
           last (suc fuel) lt = picks_entry answer next fuel now held x (option_count (pieces + parts) goes) size at
 
-          all : before_entry answer next s first x ≡ record { steps = turn.so_far ++ []; stage = now; held = held_after answer next held (option_count (pieces + parts) goes) }
-          all = turn.whole ∙ ap (λ (p : Picked). onward answer next turn.so_far p) (last turn.fuel turn.enough)
+          whole : before_entry answer next s first x ≡ record { steps = turn.so_far; stage = now; held = held' }
+          whole = turn.whole ∙ ap (λ (p : Picked). onward answer next turn.so_far p) (last turn.fuel turn.enough) ∙ ap (λ (l : List Step). record { steps = l; stage = now; held = held_after answer next held (option_count (pieces + parts) goes) }) (append-nil turn.so_far) ∙ ap (λ (h : List ℕ). record { steps = turn.so_far; stage = now; held = h }) (sym held_is)
+
+      -- the entry is picked
+      pub entry_picked : DirectRunsAreRuns → OptionsAreThere → pieces + parts ≤ picked → Picks answer next t steps s first x d held' × PicksBecome answer next s first x d0 d
+      entry_picked runs there past_all =
+          let all = entry_whole runs there past_all in
+          ((subst (λ (p : Picked). Led t (steps ++ p.steps) p.stage d) (sym all.0) turn.led, all.1, all.2), λ moved. subst (λ (p : Picked). Becomes d0.resources d.resources (memory_after s.front.past moved x p.steps)) (sym all.0) (turn.bytes moved))
 
       -- a step is picked, and taken
       module _ (step : Step) (done : List Name) (copied : List ℕ) (stage_is : stepped step now ≡ record s { done = done; copied = copied }) (d' : Device) (led' : Led t ((steps ++ turn.so_far) ++ step ∷ []) (record s { done = done; copied = copied }) d') (fewer : left_on d' < left_on d)
           (at : slice_get (options answer next now x) (pick_of answer next held (option_count (pieces + parts) goes)) ≡ Some (Take step)) (places : d.resources.resources ≡ d0.resources.resources) (images : d.resources.shapes ≡ d0.resources.shapes)
           (one : (moved : List ℕ) → Becomes d.resources d'.resources (memory_after s.front.past moved x (step ∷ [])))
           (held'' : List ℕ) (asked : held'' ≡ held_after_step answer next step held') where
-        taken : Turn t steps s d0 first x d' held''
-        taken = go turn.fuel turn.enough turn.whole
+        pub taken : Turn t steps s d0 first x d' held''
+        taken = record {
+          so_far = turn.so_far ++ step ∷ [];
+          done = done;
+          copied = copied;
+          fuel = pred turn.fuel;
+          led = subst (λ (l : List Step). Led t l (record s { done = done; copied = copied }) d') (append_assoc steps turn.so_far (step ∷ [])) led';
+          enough = (let lt = turn.enough in omega (arith, lt, fewer));
+          whole = go turn.fuel turn.enough turn.whole;
+          bytes = λ moved. steps_become s.front.past moved x d0.resources d.resources d'.resources turn.so_far (step ∷ []) places images (turn.bytes moved) (one moved);
+        }
           where
-            go : (fuel : ℕ) → left_on d < fuel → before_entry answer next s first x ≡ onward answer next turn.so_far (picks answer next fuel now held x) → Turn t steps s d0 first x d' held''
+            go : (fuel : ℕ) → left_on d < fuel → before_entry answer next s first x ≡ onward answer next turn.so_far (picks answer next fuel now held x) → before_entry answer next s first x ≡ onward answer next (turn.so_far ++ step ∷ []) (picks answer next (pred fuel) (record s { done = done; copied = copied }) held'' x)
             go zero lt whole = absurd (omega (arith, lt))
-            go (suc fuel) lt whole = record {
-              so_far = turn.so_far ++ step ∷ [];
-              done = done;
-              copied = copied;
-              fuel = fuel;
-              led = subst (λ (l : List Step). Led t l (record s { done = done; copied = copied }) d') (append_assoc steps turn.so_far (step ∷ [])) led';
-              enough = omega (arith, lt, fewer);
-              whole =
-                  whole ∙ ap (λ (p : Picked). onward answer next turn.so_far p) (picks_step answer next fuel now held x step (option_count (pieces + parts) goes) size at)
-                  ∙ ap (λ (q : Stage). onward answer next turn.so_far (onward answer next (step ∷ []) (picks answer next fuel q (held_after_step answer next step (held_after answer next held (option_count (pieces + parts) goes))) x))) stage_is
-                  ∙ ap (λ (h : List ℕ). onward answer next turn.so_far (onward answer next (step ∷ []) (picks answer next fuel (record s { done = done; copied = copied }) h x))) (ap (λ (h : List ℕ). held_after_step answer next step h) (sym held_is) ∙ sym asked)
-                  ∙ ap (λ (l : List Step). record (picks answer next fuel (record s { done = done; copied = copied }) held'' x) { steps = l }) (sym (append_assoc turn.so_far (step ∷ []) (picks answer next fuel (record s { done = done; copied = copied }) held'' x).steps));
-              bytes = λ moved. steps_become s.front.past moved x d0.resources d.resources d'.resources turn.so_far (step ∷ []) places images (turn.bytes moved) (one moved);
-            }
+            go (suc fuel) lt whole =
+                whole ∙ ap (λ (p : Picked). onward answer next turn.so_far p) (picks_step answer next fuel now held x step (option_count (pieces + parts) goes) size at)
+                ∙ ap (λ (q : Stage). onward answer next turn.so_far (onward answer next (step ∷ []) (picks answer next fuel q (held_after_step answer next step (held_after answer next held (option_count (pieces + parts) goes))) x))) stage_is
+                ∙ ap (λ (h : List ℕ). onward answer next turn.so_far (onward answer next (step ∷ []) (picks answer next fuel (record s { done = done; copied = copied }) h x))) (ap (λ (h : List ℕ). held_after_step answer next step h) (sym held_is) ∙ sym asked)
+                ∙ ap (λ (l : List Step). record (picks answer next fuel (record s { done = done; copied = copied }) held'' x) { steps = l }) (sym (append_assoc turn.so_far (step ∷ []) (picks answer next fuel (record s { done = done; copied = copied }) held'' x).steps))
 
       -- a piece runs
       pub piece_taken : (piece : Piece) → slice_get (offered s.front.past turn.done) picked ≡ Some (name_of s.front.past piece) → Contains (ready d.offers.ready) piece → (d' : Device) → HasRun d d' piece → d.resources.resources ≡ d0.resources.resources → d.resources.shapes ≡ d0.resources.shapes → RunBecomes d d' piece → (held'' : List ℕ) → held'' ≡ next (next (next (next held' 4) 4) 4) 4 → Turn t steps s d0 first x d' held''
@@ -307,9 +317,18 @@ module _ (answer : List ℕ → ℕ → ℕ) (next : List ℕ → ℕ → List �
           (turn_piece answer next now x (pick_of answer next held (option_count (pieces + parts) goes)) (name_of s.front.past piece) (ap (λ (k : ℕ). slice_get (offered s.front.past turn.done) k) (sym pick_is) ∙ named))
           places images (λ moved. becomes t (steps ++ turn.so_far) now turn.led is.sound) held'' asked
 
+      pub piece_shape : (piece : Piece) (named : slice_get (offered s.front.past turn.done) picked ≡ Some (name_of s.front.past piece)) (among' : Contains (ready d.offers.ready) piece) (d' : Device) (ran : HasRun d d' piece) (places : d.resources.resources ≡ d0.resources.resources) (images : d.resources.shapes ≡ d0.resources.shapes) (becomes : RunBecomes d d' piece) (held'' : List ℕ) (asked : held'' ≡ next (next (next (next held' 4) 4) 4) 4) → shape (piece_taken piece named among' d' ran places images becomes held'' asked) ≡ (turn.so_far ++ RunPiece (name_of s.front.past piece) ∷ [], name_of s.front.past piece ∷ turn.done, turn.copied)
+      unfolding piece_taken taken
+      piece_shape piece named among' d' ran places images becomes held'' asked = refl
+
       -- a part is copied
       pub part_taken : (j part : ℕ) → picked ≡ pieces + j → slice_get (backing.parts_left d.passes) j ≡ Some part → Contains (backing.parts_left d.passes) part → (d' : Device) → HasCopied d d' part → d'.offers ≡ d.offers → d.resources.resources ≡ d0.resources.resources → d.resources.shapes ≡ d0.resources.shapes → KeepsCells d.resources d'.resources → Turn t steps s d0 first x d' held'
       part_taken j part is_at here among' d' copies same places images cells =
           taken (CopyPart part) turn.done (part ∷ turn.copied) refl d' (copies t (steps ++ turn.so_far) now turn.led) (fewer_part part among' d' copies same)
           (turn_part answer next now x (pick_of answer next held (option_count (pieces + parts) goes)) j part (sym pick_is ∙ is_at ∙ ap (λ (n : ℕ). n + j) counted) (ap (λ (l : List ℕ). slice_get l j) turn.led.passes.left ∙ here))
           places images (λ moved. cells_become d.resources d'.resources cells) held' refl
+
+      pub part_shape : (j part : ℕ) (is_at : picked ≡ pieces + j) (here : slice_get (backing.parts_left d.passes) j ≡ Some part) (among' : Contains (backing.parts_left d.passes) part) (d' : Device) (copies : HasCopied d d' part) (same : d'.offers ≡ d.offers) (places : d.resources.resources ≡ d0.resources.resources) (images : d.resources.shapes ≡ d0.resources.shapes) (cells : KeepsCells d.resources d'.resources)
+          → shape (part_taken j part is_at here among' d' copies same places images cells) ≡ (turn.so_far ++ CopyPart part ∷ [], turn.done, part ∷ turn.copied)
+      unfolding part_taken taken
+      part_shape j part is_at here among' d' copies same places images cells = refl

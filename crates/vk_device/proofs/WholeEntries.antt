@@ -14,7 +14,9 @@ use Rattle.vk_laws.specs.DirectRuns.{DirectRunsAreRuns, NewMemoryHoldsAnything, 
 use Rattle.vk_laws.specs.PickedRuns.{PicksLeadOn}
 use Rattle.vk_resources.specs.declared.applied.Applied.{Applied}
 use Rattle.vk_resources.specs.declared.applied.Applied.TheVariants as applied
-use Rattle.vk_resources.specs.Held.{Held}
+use Rattle.vk_model.specs.World.Bytes.{Byte}
+use Rattle.vk_resources.specs.Held.{Held, IsThere}
+use Rattle.vk_resources.specs.Done.{HoldsNoneNew}
 use Rattle.vk_resources.specs.Matches.{Stands}
 use Rattle.vk_backing.specs.Passing.{Passing}
 use Rattle.vk_device.specs.declared.device.Device.{Device}
@@ -23,7 +25,7 @@ use Rattle.vk_device.specs.Becomes.{Becomes, memory_after}
 use Rattle.vk_device.specs.Inner.Ready.{HostDone, Touches, Picks, Between, PicksBecome, AdvanceReady, MayChange, HasDone, IsDone}
 use Rattle.vk_device.specs.Passes.{HasPasses, moved_by, parts_begun}
 use Rattle.vk_device.proofs.Becoming.{moved_same, steps_become}
-use Rattle.vk_device.proofs.KeptPasses.{touched_passes}
+use Rattle.vk_device.proofs.KeptPasses.{touched_passes, was_there}
 use Rattle.vk_device.specs.Led.{Led, IsBefore, Applies, ChangesBytes, Reads, IsNext}
 use Rattle.vk_device.proofs.Entering.{clean_next, host_done, goes_of, reads_of, goes_becomes, before, follows_before, reads_before, picked_atoms, applies}
 
@@ -36,7 +38,7 @@ no_atoms past x none = rw (atom_count, none) refl
 
 -- the atoms that are picked are there
 module _ (answer : List ℕ → ℕ → ℕ) (next : List ℕ → ℕ → List ℕ) where
-  atoms_below : (n k m : ℕ) (held : List ℕ) → k + n ≤ m → IsTrue (list_all (λ j. nat_lt j m) (atom_picks answer next n k held).0)
+  pub atoms_below : (n k m : ℕ) (held : List ℕ) → k + n ≤ m → IsTrue (list_all (λ j. nat_lt j m) (atom_picks answer next n k held).0)
   atoms_below zero k m held le = refl
   atoms_below (suc n) k m held le = go (answer held 2 % 2 == 1) (atoms_below n (k + 1) m (next held 2) (omega (arith, le)))
     where
@@ -110,6 +112,21 @@ module _ (laws : Laws) (answer : List ℕ → ℕ → ℕ) (next : List ℕ → 
         module _ (new : Device) (a : Applied) (done : HasDone a x (record mid { resources = r }) new) where
           did : IsDone a (before_entry answer next s held x).stage.count x (before_entry answer next s held x).stage.front.past (parts_left (before_entry answer next s held x).stage) r mid.passes new.resources new.passes
           did = done (before_entry answer next s held x).stage.count (before_entry answer next s held x).stage.front.past (parts_left (before_entry answer next s held x).stage) clean matches passes
+
+          -- of what gets a place the host's cache holds nothing
+          pub bare_then : (final : Device) → final.resources ≡ new.resources → Between old mid → HoldsNoneNew old.resources final.resources
+          bare_then final same between = subst (λ (h : Held). HoldsNoneNew old.resources h) (sym same) (go a refl)
+            where
+              back : (c : Byte) → IsThere r c → IsThere old.resources c
+              back c there = was_there old.resources r (touches.touched.resources ∙ between.resources) (touches.touched.shapes ∙ between.shapes) c there
+
+              gone_on : (a ≡ applied.NoRoom → ⊥) → HoldsNoneNew old.resources new.resources
+              gone_on other c there gone = (goes_of a _ x _ _ r mid.passes new.resources new.passes other did).bare c there (λ was. gone (back c was))
+
+              go : (b : Applied) → a ≡ b → HoldsNoneNew old.resources new.resources
+              go applied.NoRoom is = λ c there gone. absurd (gone (back c (subst (λ (h : Held). IsThere h c) (no_change a _ x _ _ r mid.passes new.resources new.passes is did).0 there)))
+              go applied.Done is = gone_on (λ none. let both : applied.Done ≡ applied.NoRoom = sym is ∙ none in absurd cc)
+              go (applied.Bytes bytes) is = gone_on (λ none. let both : applied.Bytes bytes ≡ applied.NoRoom = sym is ∙ none in absurd cc)
 
           -- where there was no room
           pub refused : a ≡ applied.NoRoom → (new.resources ≡ mid.resources) × (new.passes ≡ mid.passes) × (after ≡ between)

@@ -14,7 +14,7 @@ use Rattle.vk_model.specs.World.ByteWrites.{ByteWrite}
 use Rattle.vk_model.specs.Run.Picks.{before_entry, entry_picks}
 use Rattle.vk_model.specs.World.Effect.{world}
 use Rattle.vk_model.specs.World.Meaning.{read_in}
-use Rattle.vk_laws.specs.DirectRuns.{DirectRun, HostMemory, cells_of}
+use Rattle.vk_laws.specs.DirectRuns.{DirectRun, HostMemory, cells_of, memory_after_piece}
 use Rattle.vk_laws.specs.TraceBytes.{value_before}
 use Rattle.vk_sync.specs.declared.ready.Piece.{Piece}
 use Rattle.vk_sync.specs.Ready.{ready}
@@ -23,6 +23,8 @@ use Rattle.vk_offers.specs.IsOffers.{IsOffers, name_of, commands_in}
 use Rattle.vk_transfer.specs.Ran.{HaveRun}
 use Rattle.vk_resources.specs.declared.applied.Applied.{Applied}
 use Rattle.vk_resources.specs.declared.applied.Applied.TheVariants as applied
+use Rattle.vk_resources.specs.declared.stretches.Written.{Written}
+use Rattle.vk_resources.specs.Stretches.{HasWrites}
 use Rattle.vk_resources.specs.Held.{byte_at, IsThere, HasCell}
 use Rattle.vk_resources.specs.Rest.{KeepsRest, LiesNone, is_written}
 use Rattle.vk_resources.specs.Matches.{Stands}
@@ -76,6 +78,12 @@ pub record MayRun (d : Device) (piece : Piece) : Type 0 where
   pub sound : IsSoundTrace t
   pub among : Contains (ready d.offers.ready) piece
 
+-- What it is about to write are bytes of one resource, the same whichever run has led here (Vulkan, "Clear Commands" and "Copy Commands").
+abbrev pub IsWritten : Device → Piece → Written → Type 0
+IsWritten d piece w =
+    (t : List Entry) (steps : List Step) (s : Stage) → Led t steps s d → IsSoundTrace t
+    → HasWrites d.resources (named_piece s.front.past (name_of s.front.past piece)) w
+
 -- It has run.
 abbrev pub HasRun : Device → Device → Piece → Type 0
 HasRun old new piece =
@@ -87,6 +95,11 @@ abbrev pub HasChanged : Device → Device → Piece → Type 0
 HasChanged old new piece =
     (t : List Entry) (steps : List Step) (s : Stage) → Led t steps s old → IsSoundTrace t
     → HaveRun (named_piece s.front.past (name_of s.front.past piece)) (byte_at old.resources) (byte_at new.resources)
+
+-- The bytes of resources have become what the piece makes of them.
+abbrev pub RunBecomes : Device → Device → Piece → Type 0
+RunBecomes old new piece =
+    (t : List Entry) (steps : List Step) (s : Stage) → Led t steps s old → IsSoundTrace t → Becomes old.resources new.resources (memory_after_piece (named_piece s.front.past (name_of s.front.past piece)))
 
 -- Of all memory objects only the bytes that are written by it have changed: padding, and what is free or reserved in pools, are as they were (Vulkan, "Device Memory" and "Copy Commands").
 abbrev pub KeepsMemory : Device → Device → Piece → Type 0

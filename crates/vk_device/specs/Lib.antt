@@ -1,4 +1,6 @@
+pub mod Asking
 pub mod Becomes
+pub mod Coming
 pub mod Empty
 pub mod Led
 pub mod Passes

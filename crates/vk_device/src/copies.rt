@@ -67,6 +67,7 @@ impl<'a> Device<'a> {
         ensures changed { OnOk result (CopiesOnly self.old self.new part) }
         ensures allotted { allotted self.new.resources ≡ allotted self.old.resources }
         ensures stays { StaysAllotted (allotted self.old.resources) self.old.passes (allotted self.new.resources) self.new.passes }
+        ensures offers { self.new.offers ≡ self.old.offers }
         ensures error { IfErr result (λ f. (f ≡ Failed) × IsTrue self.old.failed) }
         ensures failed { self.new.failed ≡ self.old.failed }
         ensures err { OnErr result (self.new ≡ self.old) }

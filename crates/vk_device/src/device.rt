@@ -5,16 +5,16 @@ ghost use Rattle.vk_memory.specs.MemoryState.{IsLive, region_of};
 ghost use Rattle.vk_heap.specs.Region.{piece};
 ghost use Rattle.vk_resources.specs.Held.{placed, spot_of, IsSpotIn};
 ghost use Rattle.vk_resources.specs.Allocating.{NoRoomIsExact};
+ghost use Rattle.vk_resources.specs.Done.{HoldsNoneNew};
 ghost use Rattle.vk_backing.specs.PassAllots.{StaysAllotted};
 ghost use Rattle.vk_device.specs.Passes.{AllotsAll, parts_begun};
 ghost use Rattle.vk_offers.specs.IsOffers.{name_of};
 ghost use Rattle.vk_sync.specs.Ready.{ready};
 ghost use Rattle.vk_model.specs.Trace.PointViews.{point_of};
 ghost use Rattle.std.specs.Prelude.{◌<◌, Contains, Some, slice_get};
-ghost use Rattle.vk_model.specs.Run.Picks.{pick_of, held_after};
-ghost use Rattle.vk_device.specs.Inner.Ready.{option_count};
 
 use crate::applied::ApplyError;
+use crate::asking::{ask_caches, pick};
 use std::alloc::{AllocError, Global};
 use vk_backing::Passes;
 use vk_laws::{
@@ -26,7 +26,7 @@ use vk_model::{
     Config, Entry, Point, Scheduler, growth_keeps, no_fault_is_sound, order_is_structured,
     pieces_are_byte_writes,
 };
-use vk_offers::{Offers, Piece, points_come_next, run_at, waits_go};
+use vk_offers::{Offers, Piece, points_come_next, run_at};
 use vk_queues::{Waiting, points_after};
 use vk_resources::{Applied, Resources, Spot, Work};
 
@@ -42,22 +42,23 @@ pub struct Device<'a> {
     /// The batches that were submitted and not started.
     waiting: Waiting<'a>,
     /// The commands that were started, and which of their pieces have run.
-    offers: Offers<'a>,
+    pub(crate) offers: Offers<'a>,
     /// Those commands, made ready to be run in pieces.
-    works: Vec<Work<'a>>,
+    pub(crate) works: Vec<Work<'a>>,
     /// How many entries were applied.
-    count: usize,
+    pub(crate) count: usize,
     /// Whether an entry has met `NoMemory`.
     pub(crate) failed: bool,
 }
 
 impl<'a> Device<'a> {
     ghost use Rattle.vk_model.specs.Run.Runs.{start};
-    ghost use Rattle.vk_device.specs.Led.{Led, IsBefore, IsNext, MayRun, HasRun, HasWritten, HasChanged, KeepsMemory, KeepsPadding, Applies, ChangesBytes, Reads};
+    ghost use Rattle.vk_device.specs.Led.{Led, IsBefore, IsNext, MayRun, HasRun, HasWritten, HasChanged, RunBecomes, KeepsMemory, KeepsPadding, Applies, ChangesBytes, Reads};
     ghost use Rattle.vk_backing.specs.PassAllots.{FulfilsAll};
     ghost use Rattle.vk_model.specs.Memory.Allocations.{nothing_allocated};
+    ghost use Rattle.vk_device.specs.Coming.{PrepareReady};
     ghost use Rattle.vk_device.specs.Empty.{nothing_backed, none_begun};
-    ghost use Rattle.vk_device.specs.Inner.Ready.{PrepareReady, Prepares, Waited, MayAsk, Goes, Picks, HostDone, AdvanceReady, Touches, Rests, Between, RunBecomes, PicksBecome};
+    ghost use Rattle.vk_device.specs.Inner.Ready.{Prepares, Picks, HostDone, AdvanceReady, Touches, Rests, Between, PicksBecome};
     ghost use Rattle.vk_resources.specs.Allocating.{allotted};
     ghost use Rattle.vk_device.specs.declared.applied.ApplyError.TheVariants.{NoMemory, Failed};
 
@@ -128,38 +129,6 @@ impl<'a> Device<'a> {
         let pieces = self.resources.pieces(&work);
         self.works.push(work)?;
         Ok(pieces)
-    }
-
-    /// The commands that an entry waits for: of each queue the first so many. Only a wait of the host
-    /// waits for any.
-    fn waited(&self, entry: &'a Entry) -> Result<Option<[usize; 4]>, AllocError>
-        requires { IsNext self.now entry.now }
-        ensures { IfOk result (λ counts. Waited self.now entry.now counts) }
-    {
-        waits_go();
-        defined_runs_follow();
-        direct_runs_are_runs();
-        order_is_structured();
-        no_fault_is_sound();
-        match entry {
-            Entry::Wait { .. } => {
-                let before = self.offers.before(self.count, entry)?;
-                Ok(Some(before))
-            }
-            _ => Ok(None),
-        }
-    }
-
-    /// Whether the next entry may be applied: at once, or a wait of the host when all commands before
-    /// it have run.
-    fn may_go(&self, commands: Option<[usize; 4]>) -> bool
-        requires { MayAsk self.now commands }
-        ensures { Goes self.now commands result }
-    {
-        match commands {
-            Some(before) => self.offers.is_met(before),
-            None => true,
-        }
     }
 
     /// Runs pieces and copies parts of the open pass as the scheduler picks them, until it picks the
@@ -269,6 +238,7 @@ impl<'a> Device<'a> {
         ensures bytes { IfOk result (λ a. (t : List Entry) (steps : List Step) (s : Stage) (xs : List Entry) → IsBefore t steps s entry.now xs self.old
             → ChangesBytes S.answer S.next a s (S.held sched.old) entry.now xs self.old self.new) }
         ensures rest { OnOk result (KeepsPadding self.old self.new) }
+        ensures bare { OnOk result (HoldsNoneNew self.old.resources self.new.resources) }
         ensures failed { self.new.failed ≡ self.old.failed }
         ensures error { IfErr result (λ f. f ≡ NoMemory) }
     {
@@ -314,6 +284,8 @@ impl<'a> Device<'a> {
             → ChangesBytes S.answer S.next a s (S.held sched.old) entry.now xs self.old self.new) }
         // Of memory only bytes of resources change, and of places that are reserved in the open pass.
         ensures rest { OnOk result (KeepsPadding self.old self.new) }
+        // The host's cache holds nothing of what gets a place.
+        ensures bare { OnOk result (HoldsNoneNew self.old.resources self.new.resources) }
         ensures works { IfOk result (λ a. (self.old.failed ≡ false) × (self.new.failed ≡ false)) }
         ensures error { IfErr result (λ f. f ≡ (if self.old.failed then Failed else NoMemory)) }
         ensures failed { OnErr result (self.new.failed ≡ true) }
@@ -368,6 +340,10 @@ impl<'a> Device<'a> {
         ensures ran { OnOk result (HasRun self.old self.new piece) }
         ensures written { OnOk result (HasWritten self.old self.new piece) }
         ensures changed { OnOk result (HasChanged self.old self.new piece) }
+        ensures becomes { OnOk result (RunBecomes self.old self.new piece) }
+        // Resources lie where they lay.
+        ensures placed { self.new.resources.resources ≡ self.old.resources.resources }
+        ensures shapes { self.new.resources.shapes ≡ self.old.resources.shapes }
         // Of all memory only the bytes that it writes change, also where no resource lies.
         ensures rest { OnOk result (KeepsMemory self.old self.new piece) }
         ensures allotted { allotted self.new.resources ≡ allotted self.old.resources }
@@ -399,31 +375,5 @@ impl<'a> Device<'a> {
         ensures { out.new ≡ piece (region_of self.now.resources.memory memory) at (length out.old) }
     {
         self.resources.peek(memory, at, out);
-    }
-}
-
-/// Asks what the cache of each of the four queues does after a piece, of four answers each. Bytes are
-/// kept in place here, and no cache of a queue holds one, so that it changes none.
-fn ask_caches<S: Scheduler>(sched: &mut S)
-    ensures { S.held sched.new ≡ S.next (S.next (S.next (S.next (S.held sched.old) 4) 4) 4) 4 }
-{
-    sched.pick(4);
-    sched.pick(4);
-    sched.pick(4);
-    sched.pick(4);
-}
-
-/// Which of the options is picked: so many pieces, and then the entry, where it may be applied. The
-/// scheduler is asked where there are two or more, and its answer counts modulo their number.
-fn pick<S: Scheduler>(pieces: u64, goes: bool, sched: &mut S) -> u64
-    requires { pieces < 18446744073709551615 }
-    ensures picked { result ≡ pick_of S.answer S.next (S.held sched.old) (option_count pieces goes) }
-    ensures held { S.held sched.new ≡ held_after S.answer S.next (S.held sched.old) (option_count pieces goes) }
-{
-    let options = pieces + u64::from(goes);
-    if options >= 2 {
-        sched.pick(options) % options
-    } else {
-        0
     }
 }

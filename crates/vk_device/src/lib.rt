@@ -3,6 +3,7 @@
 #![tactic(auto)]
 
 mod applied;
+mod asking;
 mod changes;
 mod copies;
 mod device;
@@ -10,6 +11,7 @@ mod replaying;
 mod views;
 
 pub use applied::ApplyError;
+pub use asking::pick;
 pub use device::Device;
 pub use replaying::{Replayed, replay};
 pub use vk_offers::Piece;

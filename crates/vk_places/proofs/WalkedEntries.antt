@@ -8,7 +8,8 @@ use Rattle.vk_model.specs.World.Meaning.{Reads}
 use Rattle.vk_resources.specs.Held.{Held}
 use Rattle.vk_backing.specs.Passing.{Passing}
 use Rattle.vk_device.specs.declared.device.Device.{Device}
-use Rattle.vk_device.proofs.WholeTraces.{Replays, parts_in}
+use Rattle.vk_device.proofs.TracePicks.{parts_in}
+use Rattle.vk_device.proofs.WholeTraces.{Replays}
 use Rattle.vk_places.specs.declared.states.State.{State}
 use Rattle.vk_places.specs.States.{IsStateOf}
 use Rattle.vk_places.specs.Walks.{IsAfter, IsStateAfter}
@@ -25,7 +26,7 @@ module _ (answer : List ℕ → ℕ → ℕ) (next : List ℕ → ℕ → List �
     steps = r.steps;
     stage = r.stage;
     led = r.led;
-    at = r.at;
+    at = r.picks.at;
     allocated = r.allocated;
     held = r.has;
     parts = parts_in (r.counts ++ []);

@@ -1,5 +1,5 @@
 -- What each step of a device asks of it, and gives.
-use Rattle.std.specs.Prelude.{◌≡◌, ℕ, ◌+◌, ◌<◌, List, [], ◌∷◌, ◌++◌, length, Option, Some, None, Bool, true, false, if◌then◌else◌, IsTrue}
+use Rattle.std.specs.Prelude.{◌≡◌, ℕ, ◌+◌, ◌<◌, List, [], ◌∷◌, ◌++◌, length, None, true, if◌then◌else◌, IsTrue}
 use Rattle.vk_model.specs.declared.entry.Entry.{Entry}
 use Rattle.vk_model.specs.declared.command.Cmd.{Cmd}
 use Rattle.vk_model.specs.declared.entry.Entry.TheVariants as entry
@@ -8,36 +8,28 @@ use Rattle.vk_model.specs.Trace.Point.{Past, Point, Run}
 use Rattle.vk_model.specs.Trace.Order.{host}
 use Rattle.vk_model.specs.World.Bytes.{Byte}
 use Rattle.vk_model.specs.Run.Pieces.{pieces}
-use Rattle.vk_model.specs.Run.Runs.{Name, Step, Stage, RunPiece, Apply, may_go, touched_by, atom_count}
+use Rattle.vk_model.specs.Run.Runs.{Step, Stage, Apply, may_go, touched_by, atom_count}
 use Rattle.vk_model.specs.Run.Runs as runs
 use Rattle.vk_model.specs.Run.Picks.{before_entry, atom_picks}
 use Rattle.vk_model.specs.Run.Caches.{Cell, queue_agent}
-use Rattle.vk_model.specs.Run.CachedRuns.{after_host, in_atoms, named_piece, turned_over}
-use Rattle.vk_model.specs.Sync.Node.{Node, nodes}
-use Rattle.vk_laws.specs.DirectRuns.{DirectRun, HostMemory, cells_of, memory_after_piece}
+use Rattle.vk_model.specs.Run.CachedRuns.{after_host, in_atoms, turned_over}
+use Rattle.vk_laws.specs.DirectRuns.{DirectRun, HostMemory, cells_of}
 use Rattle.vk_queues.specs.IsWaiting.{IsWaiting}
-use Rattle.vk_sync.specs.declared.ready.Piece.{Piece}
-use Rattle.vk_offers.specs.IsOffers.{IsOffers, CountsBefore, host_node, is_free_next, is_run, name_of}
+use Rattle.vk_offers.specs.IsOffers.{IsOffers, is_run}
 use Rattle.vk_resources.specs.Held.{Held, IsThere, HasCell}
 use Rattle.vk_resources.specs.Matches.{Stands}
 use Rattle.vk_resources.specs.Rest.{KeepsRest}
-use Rattle.vk_resources.specs.Fits.{FitsCommand, NamesLive}
 use Rattle.vk_resources.specs.declared.applied.Applied.{Applied}
 use Rattle.vk_resources.specs.declared.applied.Applied.TheVariants as applied
-use Rattle.vk_resources.specs.Done.{CommandReady, HoldsNoneNew, ReadsBytes, ReadsNothing}
+use Rattle.vk_resources.specs.Done.{HoldsNoneNew, ReadsBytes, ReadsNothing}
 use Rattle.vk_resources.specs.PassSteps.{AreClean}
 use Rattle.vk_backing.specs.Passing.{Passing, ArePassing, CopiesAgree, open_moves}
 use Rattle.vk_device.specs.declared.device.Device.{Device}
 use Rattle.vk_device.specs.Inner.Clean.{IsClean}
 use Rattle.vk_device.specs.Becomes.{Becomes, memory_after}
+use Rattle.vk_device.specs.Coming.{CommandFits}
 use Rattle.vk_device.specs.Passes.{HasPasses, moved_by, parts_begun}
-use Rattle.vk_device.specs.Led.{Led, AreWorks, IsBefore, IsSoundTrace, KeepsPadding}
-
--- The commands before an entry that waits for them: how many of each queue; none where it waits for none. When it may be applied goes by them, whichever pieces have run then.
-abbrev pub Waited : Device → Entry → Option (List ℕ) → Type 0
-Waited d x None = (s : Stage) → may_go s x ≡ true
-Waited d x (Some counts) = (t : List Entry) (steps : List Step) (s : Stage) (xs : List Entry) → IsBefore t steps s x xs d → CountsBefore (host_node s.front.past s.count x ∷ nodes s.front.past) (host_node s.front.past s.count x) counts
-    × ((done : List Name) → may_go (record s { done = done }) x ≡ is_free_next s.front.past done (host_node s.front.past s.count x))
+use Rattle.vk_device.specs.Led.{Led, AreWorks, IsSoundTrace, KeepsPadding}
 
 -- What was copied of an open pass stays the same at both places, where all that the host has written to what moves has reached memory, and that stays so (VMA, "Defragmentation").
 abbrev pub KeepsPasses : Held → Held → Type 0
@@ -71,11 +63,6 @@ pub record Between (old new : Device) : Type 0 where
   pub shapes : new.resources.shapes ≡ old.resources.shapes
   pub moving : new.passes.moving ≡ old.passes.moving
   pub moves : open_moves new.passes ≡ open_moves old.passes
-
--- The bytes of resources have become what the piece makes of them.
-abbrev pub RunBecomes : Device → Device → Piece → Type 0
-RunBecomes old new piece =
-    (t : List Entry) (steps : List Step) (s : Stage) → Led t steps s old → IsSoundTrace t → Becomes old.resources new.resources (memory_after_piece (named_piece s.front.past (name_of s.front.past piece)))
 
 -- They have become what the steps make of them that were picked before an entry.
 abbrev pub PicksBecome : (List ℕ → ℕ → ℕ) → (List ℕ → ℕ → List ℕ) → Stage → List ℕ → Entry → Device → Device → Type 0
@@ -138,16 +125,6 @@ pub record HostDone (t : List Entry) (steps : List Step) (s : Stage) (x : Entry)
 abbrev pub AdvanceReady : Device → Entry → Type 0
 AdvanceReady d x = (t : List Entry) × (steps : List Step) × (s : Stage) × (xs : List Entry) × (atoms : List ℕ) × HostDone t steps s x xs atoms d
 
--- A command that comes fits what the resources are, and names live objects where it has a piece.
-pub record CommandFits (past : Past) (c : Cmd) (resources : Held) : Type 0 where
-  pub matches : Stands past resources
-  pub fits : FitsCommand past c
-  pub alive : 0 < length (pieces past c) → NamesLive past c
-
--- The resources are those of some past in which the command of a point fits, where it is a clear or a copy.
-abbrev pub PrepareReady : Device → Point → Type 0
-PrepareReady d p = (c : Cmd) → p.action ≡ Run c → is_run c ≡ true → CommandReady d.resources c
-
 -- A point that comes was made ready: it is run in so many pieces where it is a clear or a copy, which is among those that are ready then, and nothing else has changed.
 pub record Prepares (old new : Device) (p : Point) (total : ℕ) : Type 0 where
   pub counted : (past : Past) (c : Cmd) → p.action ≡ Run c → is_run c ≡ true → CommandFits past c old.resources → total ≡ length (pieces past c)
@@ -156,23 +133,8 @@ pub record Prepares (old new : Device) (p : Point) (total : ℕ) : Type 0 where
   pub offers : new.offers ≡ old.offers
   pub count : new.count ≡ old.count
 
--- It may be asked whether so many commands of each queue have run.
-abbrev pub MayAsk : Device → Option (List ℕ) → Type 0
-MayAsk d None = Unit {0}
-MayAsk d (Some counts) = (past : Past) × (done : List Name) × (h : Node) × IsOffers d.offers past done × (h.number ≡ length (nodes past)) × CountsBefore (h ∷ nodes past) h counts
-
--- It is answered so.
-abbrev pub Goes : Device → Option (List ℕ) → Bool → Type 0
-Goes d None goes = goes ≡ true
-Goes d (Some counts) goes = (past : Past) (done : List Name) (h : Node) → IsOffers d.offers past done → h.number ≡ length (nodes past) → CountsBefore (h ∷ nodes past) h counts → goes ≡ is_free_next past done h
-
 -- What was picked before an entry has led here, and the entry may be applied.
 abbrev pub Picks : (List ℕ → ℕ → ℕ) → (List ℕ → ℕ → List ℕ) → List Entry → List Step → Stage → List ℕ → Entry → Device → List ℕ → Type 0
 Picks answer next t steps s held x new after =
     let p = before_entry answer next s held x in
     Led t (steps ++ p.steps) p.stage new × (after ≡ p.held) × IsTrue (may_go p.stage x)
-
--- How many options there are before an entry: so many pieces and parts, and the entry where it may be applied (profile).
-abbrev pub option_count : ℕ → Bool → ℕ
-option_count steps true = steps + 1
-option_count steps false = steps

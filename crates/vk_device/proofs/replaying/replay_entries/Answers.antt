@@ -7,7 +7,7 @@ pub apply-requires : goal.apply-requires
 apply-requires g c = entry_ready g.S.Scheduler.answer g.S.Scheduler.next c.args.config c.args.entries.now (g.S.Scheduler.held c.args.sched.now) c.loop-index.index c.loop-index.reads.items c.loop-index.device (g.S.Scheduler.held c.loop-index.sched) c.index-entries-index.result c.loop-index.invariant c.index-entries-index.is c.loop-index-test.true c.requires
 
 pub returns-in-NoRoom-clause-meaning : goal.returns-in-NoRoom-clause-meaning
-returns-in-NoRoom-clause-meaning g c = c.new.ensures ∙ c.loop-index.invariant.same
+returns-in-NoRoom-clause-meaning g c = c.new.ensures ∙ c.loop-index.invariant.picks.same
 
 pub returns-in-NoRoom-clause-stop : goal.returns-in-NoRoom-clause-stop
 returns-in-NoRoom-clause-stop g c =

@@ -1,4 +1,4 @@
-use Rattle.std.proofs.Common.{[], ◌++◌, ◌∙◌, sym, ap, subst}
+use Rattle.std.proofs.Common.{[], ◌++◌, ◌∙◌, refl, sym, ap, subst}
 use Rattle.vk_resources.specs.declared.applied.Applied.{Applied}
 use Rattle.vk_resources.specs.declared.applied.Applied.TheVariants as applied
 use Rattle.vk_resources.specs.Allocating.{NoRoomIsExact, allotted}
@@ -11,7 +11,7 @@ use Rattle.vk_device.specs.Becomes.{Becomes, memory_after}
 use Rattle.vk_device.specs.Passes.{AllotsAll}
 use Rattle.vk_device.specs.Inner.Ready.{AdvanceReady, HasDone, HostDone, MayChange}
 use Rattle.vk_device.specs.Led.{Led}
-use Rattle.vk_device.proofs.WholeEntries.{Laws, next_then, may_change, advance_ready, applied_then, changes_then, read_then, refused}
+use Rattle.vk_device.proofs.WholeEntries.{Laws, next_then, may_change, advance_ready, applied_then, bare_then, changes_then, read_then, refused}
 use Rattle.vk_device.proofs.Allocating.{rooms_before, allots_through, stays_same}
 use Rattle.vk_device.proofs.Resting.{entry_padding, padding_same}
 use Rattle.vk_device.proofs.device.Device.apply_entry.Goals as goal
@@ -88,8 +88,15 @@ returns-in_ok-advance-in_default g c =
           (allots_through c.in_ok-applied.applied c.args.entry.now c.args.self.now.resources c.args.self.now.passes mid.resources mid.passes c.change.new.self.resources c.change.new.self.passes stays c.in_ok-applied.ensures.allots));
       bytes = λ t steps s xs h. changes_then laws g.S.Scheduler.answer g.S.Scheduler.next (g.S.Scheduler.held c.args.sched.now) (g.S.Scheduler.held c.run_picked.new.sched) (g.S.Scheduler.held c.touch.new.sched) c.args.entry.now c.args.self.now c.run_picked.new.self c.touch.new.self.resources c.in_ok-run_picked.ensures.picked c.in_ok-touch.ensures.touched t steps s xs h c.change.new.self c.in_ok-applied.applied done c.in_default.not-NoRoom c.advance.new.self
           last.resources last.passes c.in_ok-run_picked.ensures.between (c.in_ok-run_picked.ensures.becomes t steps s xs h);
+      bare = bare_then laws g.S.Scheduler.answer g.S.Scheduler.next (g.S.Scheduler.held c.args.sched.now) (g.S.Scheduler.held c.run_picked.new.sched) (g.S.Scheduler.held c.touch.new.sched) c.args.entry.now c.args.self.now c.run_picked.new.self c.touch.new.self.resources c.in_ok-run_picked.ensures.picked c.in_ok-touch.ensures.touched c.requires.0 c.requires.1 c.requires.2 c.requires.3 c.requires.4 c.change.new.self c.in_ok-applied.applied done c.advance.new.self last.resources c.in_ok-run_picked.ensures.between;
       rest = padding_same c.args.self.now c.change.new.self c.advance.new.self last.resources last.passes
           (entry_padding c.args.self.now c.run_picked.new.self c.touch.new.self c.change.new.self c.in_ok-run_picked.ensures.between c.run_picked.ensures.allotted c.touch.ensures.same c.touch.ensures.allotted c.in_ok-touch.ensures.rests c.in_ok-applied.ensures.rest);
       failed = c.advance.ensures.failed ∙ ap (λ (d : Device). d.failed) whole ∙ c.run_picked.ensures.failed;
       error = tt;
     }
+
+pub returns-in-NoRoom-clause-bare : goal.returns-in-NoRoom-clause-bare
+returns-in-NoRoom-clause-bare g c =
+    let laws : Laws = record { sound = c.no_fault_is_sound.ensures; runs = c.direct_runs_are_runs.ensures; following = c.defined_runs_follow.ensures; lead_on = c.picks_are_runs.ensures.lead_on; anything = c.new_memory_holds_anything.ensures; entries_go = c.direct_runs_go_on.ensures.entries; reads_trace = c.direct_runs_are_fresh.ensures.reads } in
+    let done : HasDone c.in_ok-applied.applied c.args.entry.now (record c.run_picked.new.self { resources = c.touch.new.self.resources }) c.change.new.self = subst (λ (d : Device). HasDone c.in_ok-applied.applied c.args.entry.now d c.change.new.self) c.touch.ensures.same c.in_ok-applied.ensures.done in
+    bare_then laws g.S.Scheduler.answer g.S.Scheduler.next (g.S.Scheduler.held c.args.sched.now) (g.S.Scheduler.held c.run_picked.new.sched) (g.S.Scheduler.held c.touch.new.sched) c.args.entry.now c.args.self.now c.run_picked.new.self c.touch.new.self.resources c.in_ok-run_picked.ensures.picked c.in_ok-touch.ensures.touched c.requires.0 c.requires.1 c.requires.2 c.requires.3 c.requires.4 c.change.new.self c.in_ok-applied.applied done c.change.new.self refl c.in_ok-run_picked.ensures.between

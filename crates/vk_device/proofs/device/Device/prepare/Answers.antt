@@ -7,7 +7,7 @@ use Rattle.vk_model.specs.Trace.PointViews.{point_of}
 use Rattle.vk_offers.specs.IsOffers.{is_run_in_pieces}
 use Rattle.vk_resources.specs.Done.{CommandReady}
 use Rattle.vk_device.specs.Led.{AreWorks}
-use Rattle.vk_device.specs.Inner.Ready.{CommandFits}
+use Rattle.vk_device.specs.Coming.{CommandFits}
 use Rattle.vk_device.proofs.Coming.{works_more, works_same}
 use Rattle.vk_device.proofs.device.Device.prepare.Goals as goal
 
