@@ -30,7 +30,8 @@ use Rattle.vk_device.specs.declared.device.Device.{Device}
 use Rattle.vk_device.specs.Inner.Clean.{IsClean}
 use Rattle.vk_device.specs.Inner.Fits.{FitsHost}
 use Rattle.vk_device.proofs.Entering.{lived, fits_next}
-use Rattle.vk_cached_device.specs.Inner.{Follows, moved_at}
+use Rattle.vk_cached_device.specs.Applies.{moved_at}
+use Rattle.vk_cached_device.specs.Inner.{Follows}
 
 -- ---- places
 

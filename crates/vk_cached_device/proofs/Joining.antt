@@ -12,8 +12,9 @@ use Rattle.vk_device.specs.Led.{Reads}
 use Rattle.vk_device.specs.Passes.{parts_begun}
 use Rattle.vk_device.proofs.Entering.{follows_before, reads_before}
 use Rattle.vk_cached_device.specs.declared.device.CachedDevice.{CachedDevice}
-use Rattle.vk_cached_device.specs.LedLate.{IsBeforeLate, IsNextLate}
-use Rattle.vk_cached_device.specs.Applies.{LedBy, PicksLate, LedByEntry, AppliesLate, ReadsLate}
+use Rattle.vk_cached_device.specs.LedLate.{LedLate, IsBeforeLate, IsNextLate}
+use Rattle.vk_cached_device.specs.Touching.{late_before_entry}
+use Rattle.vk_cached_device.specs.Applies.{PicksLate, LedByEntry, AppliesLate, ReadsLate, late_when_applied}
 use Rattle.vk_cached_device.specs.Inner.{MayGoNext, AppliesNext, LedByNext}
 use Rattle.vk_cached_device.proofs.Turning.{plain_before}
 
@@ -22,29 +23,29 @@ module _ (answer : List ℕ → ℕ → ℕ) (next : List ℕ → ℕ → List �
     abbrev p : Picked
     p = before_entry answer next s held x
 
-    pub led : LedBy t (steps ++ (before_entry answer next s held x).steps) (before_entry answer next s held x).stage mid
-    led = (picked t steps s memory late xs is).0
+    abbrev l : HostMemory × Late
+    l = late_before_entry answer next s held x (memory, late)
 
-    pub before_next : IsBeforeLate t (steps ++ (before_entry answer next s held x).steps) (before_entry answer next s held x).stage (picked t steps s memory late xs is).0.memory (picked t steps s memory late xs is).0.late x xs mid
+    pub before_next : IsBeforeLate t (steps ++ (before_entry answer next s held x).steps) (before_entry answer next s held x).stage (late_before_entry answer next s held x (memory, late)).0 (late_before_entry answer next s held x (memory, late)).1 x xs mid
     before_next =
         let by = picked t steps s memory late xs is in
-        let plain = follows_before answer next t steps s held x xs old.device mid.device between runs lead_on (plain_before is) (by.0.led.led, by.1, by.2) in
-        record { led = by.0.led; next = plain.next; sound = is.sound }
+        let plain = follows_before answer next t steps s held x xs old.device mid.device between runs lead_on (plain_before is) (by.0.led, by.1, by.2) in
+        record { led = by.0; next = plain.next; sound = is.sound }
 
     module _ (new : CachedDevice) where
-      pub joined : (a : Applied) → AppliesNext answer next a between x mid new after → LedByEntry answer next a t steps s held x xs new after
+      pub joined : (a : Applied) → AppliesNext answer next a between x mid new after → LedByEntry answer next a t steps s memory late held x xs new after
       joined a applies = go a (applies t _ _ _ _ xs before_next (picked t steps s memory late xs is).2)
         where
-          same : between ≡ (before_entry answer next s held x).held
+          same : between ≡ p.held
           same = (picked t steps s memory late xs is).1
 
-          entry : (let atoms = atom_picks answer next (atom_count (before_entry answer next s held x).stage.front.past x) 0 between in LedBy t ((steps ++ (before_entry answer next s held x).steps) ++ Apply atoms.0 (parts_begun new.device.passes x) ∷ []) (applied (before_entry answer next s held x).stage (parts_begun new.device.passes x) x xs) new × (after ≡ atoms.1))
-              → (let atoms = atom_picks answer next (atom_count (before_entry answer next s held x).stage.front.past x) 0 (before_entry answer next s held x).held in LedBy t (steps ++ ((before_entry answer next s held x).steps ++ Apply atoms.0 (parts_begun new.device.passes x) ∷ [])) (applied (before_entry answer next s held x).stage (parts_begun new.device.passes x) x xs) new × (after ≡ atoms.1))
+          entry : (let atoms = atom_picks answer next (atom_count p.stage.front.past x) 0 between in (m : HostMemory) × LedLate t ((steps ++ p.steps) ++ Apply atoms.0 (parts_begun new.device.passes x) ∷ []) (applied p.stage (parts_begun new.device.passes x) x xs) m (late_when_applied p.stage (parts_begun new.device.passes x) new.device.passes x xs l.1) new × (after ≡ atoms.1))
+              → (let atoms = atom_picks answer next (atom_count p.stage.front.past x) 0 p.held in (m : HostMemory) × LedLate t (steps ++ (p.steps ++ Apply atoms.0 (parts_begun new.device.passes x) ∷ [])) (applied p.stage (parts_begun new.device.passes x) x xs) m (late_when_applied p.stage (parts_begun new.device.passes x) new.device.passes x xs l.1) new × (after ≡ atoms.1))
           entry by =
-              let moved = subst (λ (h : List ℕ). LedBy t ((steps ++ (before_entry answer next s held x).steps) ++ Apply (atom_picks answer next (atom_count (before_entry answer next s held x).stage.front.past x) 0 h).0 (parts_begun new.device.passes x) ∷ []) (applied (before_entry answer next s held x).stage (parts_begun new.device.passes x) x xs) new × (after ≡ (atom_picks answer next (atom_count (before_entry answer next s held x).stage.front.past x) 0 h).1)) same by in
-              (subst (λ (l : List Step). LedBy t l (applied (before_entry answer next s held x).stage (parts_begun new.device.passes x) x xs) new) (append_assoc steps (before_entry answer next s held x).steps _) moved.0, moved.1)
+              let moved = subst (λ (h : List ℕ). LedLate t ((steps ++ p.steps) ++ Apply (atom_picks answer next (atom_count p.stage.front.past x) 0 h).0 (parts_begun new.device.passes x) ∷ []) (applied p.stage (parts_begun new.device.passes x) x xs) by.0 (late_when_applied p.stage (parts_begun new.device.passes x) new.device.passes x xs l.1) new × (after ≡ (atom_picks answer next (atom_count p.stage.front.past x) 0 h).1)) same (by.1, by.2) in
+              (by.0, subst (λ (ss : List Step). LedLate t ss (applied p.stage (parts_begun new.device.passes x) x xs) by.0 (late_when_applied p.stage (parts_begun new.device.passes x) new.device.passes x xs l.1) new) (append_assoc steps p.steps _) moved.0, moved.1)
 
-          go : (a : Applied) → LedByNext answer next a t (steps ++ (before_entry answer next s held x).steps) (before_entry answer next s held x).stage between x xs new after → LedByEntry answer next a t steps s held x xs new after
+          go : (a : Applied) → LedByNext answer next a t (steps ++ p.steps) p.stage l.0 l.1 between x xs new after → LedByEntry answer next a t steps s memory late held x xs new after
           go done.NoRoom by = (by.0, by.1 ∙ same)
           go done.Done by = entry by
           go (done.Bytes b) by = entry by

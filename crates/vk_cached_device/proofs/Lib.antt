@@ -10,9 +10,10 @@ mod WholeEntries
 mod Beginning
 mod Copying
 mod Taking
+mod LatePicking
 mod PeekLemmas
 mod AtOnce
 mod Refusing
 mod NextEntries
 mod Joining
-mod ReplayedTraces
+pub mod ReplayedTraces

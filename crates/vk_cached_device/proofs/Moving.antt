@@ -13,7 +13,8 @@ use Rattle.vk_lag.specs.declared.late.Late.{Late}
 use Rattle.vk_lag.specs.declared.late.Due.TheVariants as due
 use Rattle.vk_lag.specs.Lags.{Lags, Changes, IsRoomed, caught_up, late_in, late_at, resource_in as late_bytes}
 use Rattle.vk_device.specs.declared.device.Device.{Device}
-use Rattle.vk_cached_device.specs.Inner.{CatchesUpMoving, Follows, moved_at}
+use Rattle.vk_cached_device.specs.Applies.{moved_at}
+use Rattle.vk_cached_device.specs.Inner.{CatchesUpMoving, Follows}
 
 -- ---- lists
 

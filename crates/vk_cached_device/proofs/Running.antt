@@ -60,6 +60,9 @@ found_at (m ∷ ns) numbered n at = go (contains-cons m ns n at) (found_at ns nu
 pub found_node : (past : Past) (n : Node) → Contains (nodes past) n → numbered past n.number ≡ Some n
 found_node past n at = found_at (nodes past) (numbers.numbered past) n at
 
+pub numbered_at : (past : Past) (piece : Piece) (n : Node) → slice_get (commands_in (nodes past)) piece.command ≡ Some n → numbered past (name_of past piece).0 ≡ Some n
+numbered_at past piece n here = ap (λ (k : ℕ). numbered past k) (ap number_of here) ∙ found_node past n (command_at (nodes past) piece.command n here).0
+
 -- ---- where resources stay
 
 pub same_place : (old new : Held) → new.resources ≡ old.resources → new.shapes ≡ old.shapes → (c : Byte) → place_at new c ≡ place_at old c
@@ -85,11 +88,8 @@ module _ (t : List Entry) (steps : List Step) (s : Stage) (memory : HostMemory) 
   abbrev n : Node
   n = its.0
 
-  number_is : (name_of past piece).0 ≡ n.number
-  number_is = ap number_of its.1
-
   pub numbered_so : numbered past (name_of past piece).0 ≡ Some n
-  numbered_so = ap (λ (k : ℕ). numbered past k) number_is ∙ found_node past n (command_at (nodes past) piece.command n its.1).0
+  numbered_so = numbered_at past piece n its.1
 
   four : n.point.queue < 4
   four =

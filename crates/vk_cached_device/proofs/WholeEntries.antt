@@ -14,7 +14,7 @@ use Rattle.vk_model.specs.Run.Runs.{Step, Stage, Apply, applied, may_go, are_ato
 use Rattle.vk_model.specs.Run.CachedRuns.{happening}
 use Rattle.vk_model.specs.World.Bytes.{Byte}
 use Rattle.vk_laws.specs.DirectRuns.{HostMemory, cells_of, is_made, memory_after_entry}
-use Rattle.vk_cache_laws.specs.LateRuns.{Late, LateRun, late_after_entry, late_after_nodes, late_after_node, EntriesGoOnLate, NewBytesAreNotLate}
+use Rattle.vk_cache_laws.specs.LateRuns.{Late, LateRun, late_after_entry, late_after_nodes, late_after_node, EntriesGoOnLate, NewBytesAreNotLate, LateBytesAreThemselves}
 use Rattle.vk_queues.specs.IsWaiting.{IsWaiting}
 use Rattle.vk_offers.specs.IsHappenings.{IsHappenings}
 use Rattle.vk_lag.specs.Lags.{Lags, resource_in}
@@ -33,9 +33,11 @@ use Rattle.vk_device.proofs.Coming.{applied_front, applied_count, applied_done, 
 use Rattle.vk_device.proofs.Entering.{was_there, there_made, none_new, new_cell}
 use Rattle.vk_cached_device.specs.declared.device.CachedDevice.{CachedDevice}
 use Rattle.vk_cached_device.specs.LedLate.{LedLate, IsBeforeLate, AreWriters}
-use Rattle.vk_cached_device.specs.Inner.{Follows, moved_at, Arrives, Advances, HasAdvanced, Settles}
+use Rattle.vk_cached_device.specs.Applies.{moved_at, late_when_applied}
+use Rattle.vk_cached_device.specs.Inner.{Follows, Arrives, Advances, HasAdvanced, Settles}
 use Rattle.vk_cached_device.proofs.Coming.{was_done}
 use Rattle.vk_cached_device.proofs.Following.{late_follows, room_follows}
+use Rattle.vk_cached_device.proofs.LatePicking.{nodes_alike, late_alike}
 
 -- what an entry moves counts for late bytes where it begins a pass alone
 same_moved : (p q : Passing) (x : Entry) (late : Late) (c : Byte) → late_after_entry (moved_by p x q) x late c ≡ late_after_entry (moved_at x q) x late c
@@ -151,3 +153,9 @@ module _ (t : List Entry) (steps : List Step) (s : Stage) (memory : HostMemory) 
                 few = come_to.few;
                 writers = come_to.writers;
               })
+
+          -- in the words of an entry that was applied
+          pub led_told : LateBytesAreThemselves → LedLate t (steps ++ Apply atoms (parts_begun new.device.passes x) ∷ []) (applied s (parts_begun new.device.passes x) x xs) (memory_after_entry past atoms moved x between) (late_when_applied s (parts_begun new.device.passes x) new.device.passes x xs late) new
+          led_told law = late_alike law t (steps ++ Apply atoms (parts_begun new.device.passes x) ∷ []) (applied s (parts_begun new.device.passes x) x xs) (memory_after_entry past atoms moved x between) (late_after_nodes s (applied s (parts_begun device.passes x) x xs) (late_after_entry moved x late)) _ new led_on
+              (λ c. subst (λ (d : Device). late_after_nodes s (applied s (parts_begun device.passes x) x xs) (late_after_entry moved x late) c ≡ late_when_applied s (parts_begun d.passes x) d.passes x xs late c) (sym (ap (λ (d : CachedDevice). d.device) settled.same ∙ advances.device))
+              (nodes_alike (applied s (parts_begun device.passes x) x xs).front.past (happening s (applied s (parts_begun device.passes x) x xs)) (late_after_entry moved x late) (late_after_entry (moved_at x device.passes) x late) (same_moved old.device.passes device.passes x late) c))

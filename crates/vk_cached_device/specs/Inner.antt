@@ -22,20 +22,22 @@ use Rattle.vk_offers.specs.IsHappenings.{IsHappenings}
 use Rattle.vk_lag.specs.declared.late.Writer.{Writer}
 use Rattle.vk_lag.specs.Lags.{Lags, resource_in as late_bytes, late_at}
 use Rattle.vk_backing.specs.Passing.{Passing}
+use Rattle.vk_backing.specs.PassAllots.{StaysAllotted}
 use Rattle.vk_resources.specs.declared.applied.Applied.{Applied}
 use Rattle.vk_resources.specs.declared.applied.Applied.TheVariants as done
 use Rattle.vk_resources.specs.declared.resources.Placed.{Placed}
 use Rattle.vk_resources.specs.Held.{placed}
+use Rattle.vk_resources.specs.Allocating.{allotted}
 use Rattle.vk_resources.specs.PassSteps.{KeepsCells}
 use Rattle.vk_availability.specs.AreLate.{AreLate}
 use Rattle.vk_device.specs.declared.device.Device.{Device}
 use Rattle.vk_device.specs.Becomes.{Becomes}
 use Rattle.vk_device.specs.Coming.{CommandFits, PrepareReady}
-use Rattle.vk_device.specs.Led.{Led, IsBefore, IsSoundTrace, HasRun, RunBecomes, HasCopied}
+use Rattle.vk_device.specs.Led.{Led, IsBefore, IsSoundTrace, HasRun, HasWritten, RunBecomes, HasCopied}
 use Rattle.vk_device.specs.Passes.{moved_by, parts_begun}
 use Rattle.vk_cached_device.specs.declared.device.CachedDevice.{CachedDevice}
-use Rattle.vk_cached_device.specs.LedLate.{AreWriters, IsBeforeLate}
-use Rattle.vk_cached_device.specs.Applies.{LedBy}
+use Rattle.vk_cached_device.specs.LedLate.{LedLate, AreWriters, IsBeforeLate}
+use Rattle.vk_cached_device.specs.Applies.{moved_at, late_when_applied}
 
 -- Some points are known, of fewer nodes than 32 bits count.
 abbrev pub MaySettle : CachedDevice → Type 0
@@ -52,13 +54,18 @@ pub record Settles (old new : CachedDevice) : Type 0 where
 -- A piece has run on the device with the newest bytes.
 pub record RunsPlain (old new : Device) (piece : Piece) : Type 0 where
   pub ran : HasRun old new piece
+  pub written : HasWritten old new piece
   pub becomes : RunBecomes old new piece
   pub placed : new.resources.resources ≡ old.resources.resources
   pub shapes : new.resources.shapes ≡ old.resources.shapes
+  pub same_allotted : allotted new.resources ≡ allotted old.resources
+  pub stays : StaysAllotted (allotted old.resources) old.passes (allotted new.resources) new.passes
 
 -- A part has been copied there.
 pub record CopiesPlain (old new : Device) (part : ℕ) : Type 0 where
   pub copied : HasCopied old new part
+  pub same_allotted : allotted new.resources ≡ allotted old.resources
+  pub stays : StaysAllotted (allotted old.resources) old.passes (allotted new.resources) new.passes
   pub cells : KeepsCells old.resources new.resources
   pub offers : new.offers ≡ old.offers
 
@@ -67,11 +74,6 @@ pub record CopiesPlain (old new : Device) (part : ℕ) : Type 0 where
 -- The entry that comes next may be applied at once.
 abbrev pub MayGoNext : CachedDevice → Entry → Type 0
 MayGoNext d x = (t : List Entry) × (steps : List Step) × (s : Stage) × (memory : HostMemory) × (late : Late) × (xs : List Entry) × IsBeforeLate t steps s memory late x xs d × IsTrue (may_go s x)
-
--- The resources that memory catches up with at an entry: those that the pass moves that it begins (VMA, "Defragmentation").
-abbrev pub moved_at : Entry → Passing → List ℕ
-moved_at (entry.Pass d) p = p.moving
-moved_at x p = []
 
 -- Memory has caught up with all bytes of some resources, and nothing else has changed.
 pub record CatchesUpMoving (moving : List ℕ) (old new : Lags) : Type 0 where
@@ -150,12 +152,13 @@ module _ (answer : List ℕ → ℕ → ℕ) (next : List ℕ → ℕ → List �
   PlainNext a held x old new after = (t : List Entry) (steps : List Step) (s : Stage) (xs : List Entry) → IsBefore t steps s x xs old → IsTrue (may_go s x) → PlainBy a t steps s held x xs old new after
 
   -- The next entry has been applied at once, with the atoms that a scheduler picked; where there was no room nothing has changed (profile).
-  abbrev pub LedByNext : Applied → List Entry → List Step → Stage → List ℕ → Entry → List Entry → CachedDevice → List ℕ → Type 0
-  LedByNext done.NoRoom t steps s held x xs new after = LedBy t steps s new × (after ≡ held)
-  LedByNext _ t steps s held x xs new after =
+  abbrev pub LedByNext : Applied → List Entry → List Step → Stage → HostMemory → Late → List ℕ → Entry → List Entry → CachedDevice → List ℕ → Type 0
+  LedByNext done.NoRoom t steps s memory late held x xs new after = LedLate t steps s memory late new × (after ≡ held)
+  LedByNext _ t steps s memory late held x xs new after =
+      let parts = parts_begun new.device.passes x in
       let atoms = atom_picks answer next (atom_count s.front.past x) 0 held in
-      LedBy t (steps ++ Apply atoms.0 (parts_begun new.device.passes x) ∷ []) (applied s (parts_begun new.device.passes x) x xs) new × (after ≡ atoms.1)
+      (m : HostMemory) × LedLate t (steps ++ Apply atoms.0 parts ∷ []) (applied s parts x xs) m (late_when_applied s parts new.device.passes x xs late) new × (after ≡ atoms.1)
 
   abbrev pub AppliesNext : Applied → List ℕ → Entry → CachedDevice → CachedDevice → List ℕ → Type 0
   AppliesNext a held x old new after =
-      (t : List Entry) (steps : List Step) (s : Stage) (memory : HostMemory) (late : Late) (xs : List Entry) → IsBeforeLate t steps s memory late x xs old → IsTrue (may_go s x) → LedByNext a t steps s held x xs new after
+      (t : List Entry) (steps : List Step) (s : Stage) (memory : HostMemory) (late : Late) (xs : List Entry) → IsBeforeLate t steps s memory late x xs old → IsTrue (may_go s x) → LedByNext a t steps s memory late held x xs new after

@@ -1,5 +1,7 @@
 ghost use Rattle.std.specs.Prelude.{◌≡◌, ◌⊎◌, IfErr, IfOk, IsTrue, OnErr, true, false, if◌then◌else◌};
 ghost use Rattle.vk_device.specs.declared.applied.ApplyError.TheVariants.{NoMemory, Failed};
+ghost use Rattle.vk_resources.specs.Allocating.{NoRoomIsExact};
+ghost use Rattle.vk_device.specs.Passes.{AllotsAll};
 ghost use Rattle.vk_cached_device.specs.LedLate.{IsNextLate};
 ghost use Rattle.vk_cached_device.specs.Applies.{AppliesLate, ReadsLate};
 
@@ -18,6 +20,8 @@ impl<'a> CachedDevice<'a> {
         requires { IsNextLate self.old entry.now }
         ensures applied { IfOk result (λ a. AppliesLate S.answer S.next a (S.held sched.old) entry.now self.old self.new (S.held sched.new)) }
         ensures reads { IfOk result (λ a. ReadsLate a entry.now self.old) }
+        ensures rooms { IfOk result (λ a. NoRoomIsExact a self.old.device.resources entry.now) }
+        ensures allots { IfOk result (λ a. AllotsAll a entry.now self.old.device.resources self.old.device.passes self.new.device.resources self.new.device.passes) }
         ensures failed { self.new.failed ≡ self.old.failed }
         ensures error { IfErr result (λ f. f ≡ NoMemory) }
     {
@@ -41,6 +45,10 @@ impl<'a> CachedDevice<'a> {
         requires { IsTrue self.old.failed ⊎ IsNextLate self.old entry.now }
         ensures applied { IfOk result (λ a. AppliesLate S.answer S.next a (S.held sched.old) entry.now self.old self.new (S.held sched.new)) }
         ensures reads { IfOk result (λ a. ReadsLate a entry.now self.old) }
+        // It finds no room where the definitions say so of what is allocated on the device, and changes of that
+        // what they say.
+        ensures rooms { IfOk result (λ a. NoRoomIsExact a self.old.device.resources entry.now) }
+        ensures allots { IfOk result (λ a. AllotsAll a entry.now self.old.device.resources self.old.device.passes self.new.device.resources self.new.device.passes) }
         ensures works { IfOk result (λ a. (self.old.failed ≡ false) × (self.new.failed ≡ false)) }
         ensures error { IfErr result (λ f. f ≡ (if self.old.failed then Failed else NoMemory)) }
         ensures failed { OnErr result (self.new.failed ≡ true) }

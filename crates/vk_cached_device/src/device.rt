@@ -2,7 +2,10 @@ ghost use Rattle.std.specs.Prelude.{◌≡◌, List, [], false};
 ghost use Rattle.vk_model.specs.declared.entry.Entry.{Entry};
 ghost use Rattle.vk_model.specs.Run.Runs.{start};
 ghost use Rattle.vk_model.specs.World.Bytes.{Byte};
+ghost use Rattle.vk_model.specs.Memory.Allocations.{nothing_allocated};
 ghost use Rattle.vk_laws.specs.DirectRuns.{bare_memory};
+ghost use Rattle.vk_backing.specs.PassAllots.{FulfilsAll};
+ghost use Rattle.vk_resources.specs.Allocating.{allotted};
 ghost use Rattle.vk_cached_device.specs.LedLate.{LedLate, BeginsLate};
 
 use std::alloc::Global;
@@ -39,6 +42,8 @@ impl<'a> CachedDevice<'a> {
     /// A device with heaps of these sizes, without resources. It takes no memory.
     pub fn new(alloc: Global, config: Config) -> CachedDevice<'a>
         ensures led { BeginsLate result }
+        // Nothing is allocated on it.
+        ensures allocated { FulfilsAll (allotted result.device.resources) result.device.passes (nothing_allocated config) }
         ensures works { result.failed ≡ false }
     {
         late_runs_go_on();

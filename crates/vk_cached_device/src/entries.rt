@@ -6,6 +6,7 @@ ghost use Rattle.vk_resources.specs.Done.{HoldsNoneNew};
 ghost use Rattle.vk_model.specs.Trace.PointViews.{point_of};
 ghost use Rattle.vk_device.specs.declared.applied.ApplyError.TheVariants.{NoMemory};
 ghost use Rattle.vk_resources.specs.Allocating.{NoRoomIsExact};
+ghost use Rattle.vk_device.specs.Passes.{AllotsAll};
 ghost use Rattle.vk_cached_device.specs.Applies.{ReadsLate};
 ghost use Rattle.vk_cached_device.specs.Inner.{MayGoNext, MayAdvance, AddsWriter, Advances, Follows, CatchesUpMoving, CountsPieces, CommandIsReady, AppliesNext, PlainNext};
 
@@ -141,6 +142,7 @@ impl<'a> CachedDevice<'a> {
         ensures bare { OnOk result (HoldsNoneNew self.old.device.resources self.new.device.resources) }
         ensures reads { IfOk result (λ a. ReadsLate a entry.now self.old) }
         ensures rooms { IfOk result (λ a. NoRoomIsExact a self.old.device.resources entry.now) }
+        ensures allots { IfOk result (λ a. AllotsAll a entry.now self.old.device.resources self.old.device.passes self.new.device.resources self.new.device.passes) }
         ensures works { OnOk result (self.new.device.failed ≡ false) }
         ensures same { self.new ≡ record self.old { device = self.new.device } }
         ensures error { IfErr result (λ f. f ≡ NoMemory) }
@@ -161,6 +163,7 @@ impl<'a> CachedDevice<'a> {
         ensures applied { IfOk result (λ a. AppliesNext S.answer S.next a (S.held sched.old) entry.now self.old self.new (S.held sched.new)) }
         ensures reads { IfOk result (λ a. ReadsLate a entry.now self.old) }
         ensures rooms { IfOk result (λ a. NoRoomIsExact a self.old.device.resources entry.now) }
+        ensures allots { IfOk result (λ a. AllotsAll a entry.now self.old.device.resources self.old.device.passes self.new.device.resources self.new.device.passes) }
         ensures failed { self.new.failed ≡ self.old.failed }
         ensures error { IfErr result (λ f. f ≡ NoMemory) }
     {

@@ -2,6 +2,8 @@ ghost use Rattle.std.specs.Prelude.{◌≡◌, ◌++◌, ◌%◌, OnOk, option_m
 ghost use Rattle.vk_cache_laws.specs.CachedPicks.{touch_of};
 ghost use Rattle.vk_model.specs.Basics.{option_list};
 ghost use Rattle.vk_model.specs.World.Ownership.{uses};
+ghost use Rattle.vk_backing.specs.PassAllots.{StaysAllotted};
+ghost use Rattle.vk_resources.specs.Allocating.{allotted};
 ghost use Rattle.vk_cached_device.specs.Touching.{TouchesBy, TouchesEach, TouchesNamed};
 ghost use Rattle.vk_cached_device.specs.LedLate.{IsNextLate, act_of};
 ghost use Rattle.vk_cached_device.specs.Applies.{PicksLate};
@@ -24,6 +26,8 @@ impl<'a> CachedDevice<'a> {
     ) -> Result<(), AllocError>
         requires { IsNextLate self.old entry.now }
         ensures picked { OnOk result (PicksLate S.answer S.next (S.held sched.old) entry.now self.old self.new (S.held sched.new)) }
+        ensures allotted { OnOk result (allotted self.new.device.resources ≡ allotted self.old.device.resources) }
+        ensures stays { OnOk result (StaysAllotted (allotted self.old.device.resources) self.old.device.passes (allotted self.new.device.resources) self.new.device.passes) }
         ensures failed { self.new.failed ≡ self.old.failed }
     {
         picks_are_runs();

@@ -9,7 +9,7 @@ use crate::device::CachedDevice;
 use std::alloc::Global;
 use vk_device::{Applied, ApplyError};
 use vk_laws::{defined_runs_follow, direct_runs_are_runs, picks_are_runs};
-use vk_model::{Config, Entry, Scheduler, Sequence};
+use vk_model::{Config, Entry, Scheduler, Sequence, parts_follow};
 use vk_validate::Accepted;
 
 /// What a trace gave on a device whose queues have caches.
@@ -35,8 +35,10 @@ pub fn replay_through_caches<'a, S: Scheduler>(
     // The reads are what the trace means, up to the stop where there is one.
     ensures meaning { IfOk result (λ r. MatchOption r.stop
         (r.reads ≡ meaning accepted.now (length accepted.now)) (λ n. r.reads ≡ meaning accepted.now n)) }
-    // What the scheduler picked has led to the device, through caches of queues.
-    ensures led { IfOk result (λ r. EndsLate S.answer S.next accepted.now r.stop (S.held sched.old) r.device (S.held sched.new)) }
+    // The device has what the entries that were applied allocate; it stops where the next entry finds
+    // no room there, and nowhere else; and what the scheduler picked has led to it, through caches of
+    // queues.
+    ensures stop { IfOk result (λ r. EndsLate S.answer S.next config accepted.now r.stop (S.held sched.old) r.device (S.held sched.new)) }
     // The device has not failed.
     ensures works { IfOk result (λ r. r.device.failed ≡ false) }
     ensures error { IfErr result (λ f. f ≡ NoMemory) }
@@ -54,13 +56,14 @@ fn replay_entries<'a, S: Scheduler>(
     requires { IsSoundTrace entries.now }
     ensures meaning { IfOk result (λ r. MatchOption r.stop
         (r.reads ≡ meaning entries.now (length entries.now)) (λ n. r.reads ≡ meaning entries.now n)) }
-    ensures led { IfOk result (λ r. EndsLate S.answer S.next entries.now r.stop (S.held sched.old) r.device (S.held sched.new)) }
+    ensures stop { IfOk result (λ r. EndsLate S.answer S.next config entries.now r.stop (S.held sched.old) r.device (S.held sched.new)) }
     ensures works { IfOk result (λ r. r.device.failed ≡ false) }
     ensures error { IfErr result (λ f. f ≡ NoMemory) }
 {
     defined_runs_follow();
     direct_runs_are_runs();
     picks_are_runs();
+    parts_follow();
     let mut device = CachedDevice::new(alloc, config);
     let mut reads = Vec::new(alloc);
     for (index, entry) in entries.iter().enumerate() {

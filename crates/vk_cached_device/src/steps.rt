@@ -1,4 +1,7 @@
 ghost use Rattle.std.specs.Prelude.{◌≡◌, ◌⊎◌, ℕ, IfErr, IsTrue, OnErr, OnOk};
+ghost use Rattle.vk_backing.specs.PassAllots.{StaysAllotted};
+ghost use Rattle.vk_resources.specs.Allocating.{allotted};
+ghost use Rattle.vk_device.specs.Led.{HasWritten};
 ghost use Rattle.vk_device.specs.declared.applied.ApplyError.TheVariants.{Failed};
 ghost use Rattle.vk_cached_device.specs.LedLate.{MayRunLate, HasRunLate, MayCopyLate, HasCopiedLate, HasTouchedLate, act_of};
 ghost use Rattle.vk_cached_device.specs.Inner.{MaySettle, Settles, RunsPlain, CopiesPlain};
@@ -57,6 +60,10 @@ impl<'a> CachedDevice<'a> {
     pub fn step(&mut self, piece: Piece) -> Result<(), ApplyError>
         requires { IsTrue self.old.failed ⊎ MayRunLate self.old piece }
         ensures ran { OnOk result (HasRunLate self.old self.new piece) }
+        // Each byte that it wrote is the trace's, as its queue sees it.
+        ensures written { OnOk result (HasWritten self.old.device self.new.device piece) }
+        // Nothing of what is allocated changes.
+        ensures stays { OnOk result (StaysAllotted (allotted self.old.device.resources) self.old.device.passes (allotted self.new.device.resources) self.new.device.passes) }
         ensures error { IfErr result (λ f. (f ≡ Failed) × IsTrue self.old.failed) }
         ensures failed { self.new.failed ≡ self.old.failed }
         ensures err { OnErr result (self.new ≡ self.old) }
@@ -119,6 +126,8 @@ impl<'a> CachedDevice<'a> {
     pub fn copy(&mut self, part: u64) -> Result<(), ApplyError>
         requires { IsTrue self.old.failed ⊎ MayCopyLate self.old part }
         ensures copied { OnOk result (HasCopiedLate self.old self.new part) }
+        // Nothing of what is allocated changes.
+        ensures stays { OnOk result (StaysAllotted (allotted self.old.device.resources) self.old.device.passes (allotted self.new.device.resources) self.new.device.passes) }
         ensures error { IfErr result (λ f. (f ≡ Failed) × IsTrue self.old.failed) }
         ensures failed { self.new.failed ≡ self.old.failed }
         ensures err { OnErr result (self.new ≡ self.old) }

@@ -172,6 +172,14 @@ module _ (answer : List ℕ → ℕ → ℕ) (next : List ℕ → ℕ → List �
   abbrev pub Turns : Device → List ℕ → Entry → Device → List ℕ → Type 0
   Turns d0 first x d held = (t : List Entry) (steps : List Step) (s : Stage) (xs : List Entry) → IsBefore t steps s x xs d0 → Turn t steps s d0 first x d held
 
+  -- there is fuel for all steps that are left
+  pub first_enough : (d : Device) (x : Entry) (t : List Entry) (steps : List Step) (s : Stage) (xs : List Entry) → IsBefore t steps s x xs d → left_on d < most_picks answer next s
+  first_enough d x t steps s xs is =
+      let few = pieces_left s.front.past s.done d.offers.ready is.led.offers.started in
+      let parts = ap (λ (l : List ℕ). length l) is.led.passes.left in
+      let most = few_parts s in
+      omega (arith, few, parts, most)
+
   pub first_turn : (d : Device) (held : List ℕ) (x : Entry) → Turns d held x d held
   first_turn d held x t steps s xs is = record {
     so_far = [];
@@ -179,7 +187,7 @@ module _ (answer : List ℕ → ℕ → ℕ) (next : List ℕ → ℕ → List �
     copied = s.copied;
     fuel = most_picks answer next s;
     led = subst (λ (l : List Step). Led t l s d) (sym (append-nil steps)) is.led;
-    enough = (let few = pieces_left s.front.past s.done d.offers.ready is.led.offers.started in let parts = ap (λ (l : List ℕ). length l) is.led.passes.left in let most = few_parts s in omega (arith, few, parts, most));
+    enough = first_enough d x t steps s xs is;
     whole = refl;
     bytes = λ moved. becomes_same d.resources;
   }
@@ -251,13 +259,18 @@ module _ (answer : List ℕ → ℕ → ℕ) (next : List ℕ → ℕ → List �
       steps_are : pieces + parts ≡ steps_at answer next now x
       steps_are = let m = parts_are ∙ ap (λ (l : List ℕ). length l) (sym turn.led.passes.left) in omega (arith, counted, m)
 
-      size : option_count (pieces + parts) goes ≡ length (options answer next now x)
+      pub size : option_count (pieces + parts) goes ≡ length (options answer next now x)
       size = ap (λ (n : ℕ). option_count n goes) steps_are ∙ ap (λ (b : Bool). option_count (steps_at answer next now x) b) may ∙ sym (turn_length answer next now x)
 
-      -- then that is all that is picked before it
-      pub entry_whole : DirectRunsAreRuns → OptionsAreThere → pieces + parts ≤ picked
-          → (before_entry answer next s first x ≡ record { steps = turn.so_far; stage = record s { done = turn.done; copied = turn.copied }; held = held' }) × (held' ≡ (before_entry answer next s first x).held) × IsTrue (may_go (before_entry answer next s first x).stage x)
-      entry_whole runs there past_all = (whole, ap (λ (p : Picked). p.held) (sym whole), subst (λ (p : Picked). IsTrue (may_go p.stage x)) (sym whole) (sym may ∙ chosen.0))
+      -- the option that is picked: a piece, a part, or the entry where all steps are before it
+      pub piece_at : (piece : Piece) → slice_get (offered s.front.past turn.done) picked ≡ Some (name_of s.front.past piece) → slice_get (options answer next now x) (pick_of answer next held (option_count (pieces + parts) goes)) ≡ Some (Take (RunPiece (name_of s.front.past piece)))
+      piece_at piece named = turn_piece answer next now x (pick_of answer next held (option_count (pieces + parts) goes)) (name_of s.front.past piece) (ap (λ (k : ℕ). slice_get (offered s.front.past turn.done) k) (sym pick_is) ∙ named)
+
+      pub part_at : (j part : ℕ) → picked ≡ pieces + j → slice_get (backing.parts_left d.passes) j ≡ Some part → slice_get (options answer next now x) (pick_of answer next held (option_count (pieces + parts) goes)) ≡ Some (Take (CopyPart part))
+      part_at j part is_at here = turn_part answer next now x (pick_of answer next held (option_count (pieces + parts) goes)) j part (sym pick_is ∙ is_at ∙ ap (λ (n : ℕ). n + j) counted) (ap (λ (l : List ℕ). slice_get l j) turn.led.passes.left ∙ here)
+
+      pub entry_at : DirectRunsAreRuns → OptionsAreThere → pieces + parts ≤ picked → (goes ≡ true) × (slice_get (options answer next now x) (pick_of answer next held (option_count (pieces + parts) goes)) ≡ Some Go)
+      entry_at runs there past_all = (chosen.0, turn_go answer next now x (sym may ∙ chosen.0) _ (sym pick_is ∙ chosen.1 ∙ steps_are))
         where
           some : 0 < option_count (pieces + parts) goes
           some = let n = there answer next t (steps ++ turn.so_far) now x xs (runs t (steps ++ turn.so_far) now _ turn.led.run) is.sound.faultless is.next in rw size n
@@ -269,12 +282,17 @@ module _ (answer : List ℕ → ℕ → ℕ) (next : List ℕ → ℕ → List �
               go true lt = (refl, omega (arith, lt, past_all))
               go false lt = absurd (omega (arith, lt, past_all))
 
-          at : slice_get (options answer next now x) (pick_of answer next held (option_count (pieces + parts) goes)) ≡ Some Go
-          at = turn_go answer next now x (sym may ∙ chosen.0) _ (sym pick_is ∙ chosen.1 ∙ steps_are)
+      -- then that is all that is picked before it
+      pub entry_whole : DirectRunsAreRuns → OptionsAreThere → pieces + parts ≤ picked
+          → (before_entry answer next s first x ≡ record { steps = turn.so_far; stage = record s { done = turn.done; copied = turn.copied }; held = held' }) × (held' ≡ (before_entry answer next s first x).held) × IsTrue (may_go (before_entry answer next s first x).stage x)
+      entry_whole runs there past_all = (whole, ap (λ (p : Picked). p.held) (sym whole), subst (λ (p : Picked). IsTrue (may_go p.stage x)) (sym whole) (sym may ∙ chosen.0))
+        where
+          chosen : (goes ≡ true) × (slice_get (options answer next now x) (pick_of answer next held (option_count (pieces + parts) goes)) ≡ Some Go)
+          chosen = entry_at runs there past_all
 
           last : (fuel : ℕ) → left_on d < fuel → picks answer next fuel now held x ≡ record { steps = []; stage = now; held = held_after answer next held (option_count (pieces + parts) goes) }
           last zero lt = absurd (omega (arith, lt))
-          last (suc fuel) lt = picks_entry answer next fuel now held x (option_count (pieces + parts) goes) size at
+          last (suc fuel) lt = picks_entry answer next fuel now held x (option_count (pieces + parts) goes) size chosen.1
 
           whole : before_entry answer next s first x ≡ record { steps = turn.so_far; stage = now; held = held' }
           whole = turn.whole ∙ ap (λ (p : Picked). onward answer next turn.so_far p) (last turn.fuel turn.enough) ∙ ap (λ (l : List Step). record { steps = l; stage = now; held = held_after answer next held (option_count (pieces + parts) goes) }) (append-nil turn.so_far) ∙ ap (λ (h : List ℕ). record { steps = turn.so_far; stage = now; held = h }) (sym held_is)
@@ -314,7 +332,7 @@ module _ (answer : List ℕ → ℕ → ℕ) (next : List ℕ → ℕ → List �
       pub piece_taken : (piece : Piece) → slice_get (offered s.front.past turn.done) picked ≡ Some (name_of s.front.past piece) → Contains (ready d.offers.ready) piece → (d' : Device) → HasRun d d' piece → d.resources.resources ≡ d0.resources.resources → d.resources.shapes ≡ d0.resources.shapes → RunBecomes d d' piece → (held'' : List ℕ) → held'' ≡ next (next (next (next held' 4) 4) 4) 4 → Turn t steps s d0 first x d' held''
       piece_taken piece named among' d' ran places images becomes held'' asked =
           taken (RunPiece (name_of s.front.past piece)) (name_of s.front.past piece ∷ turn.done) turn.copied refl d' (led_on piece d' ran) (fewer_piece piece among' d' ran)
-          (turn_piece answer next now x (pick_of answer next held (option_count (pieces + parts) goes)) (name_of s.front.past piece) (ap (λ (k : ℕ). slice_get (offered s.front.past turn.done) k) (sym pick_is) ∙ named))
+          (piece_at piece named)
           places images (λ moved. becomes t (steps ++ turn.so_far) now turn.led is.sound) held'' asked
 
       pub piece_shape : (piece : Piece) (named : slice_get (offered s.front.past turn.done) picked ≡ Some (name_of s.front.past piece)) (among' : Contains (ready d.offers.ready) piece) (d' : Device) (ran : HasRun d d' piece) (places : d.resources.resources ≡ d0.resources.resources) (images : d.resources.shapes ≡ d0.resources.shapes) (becomes : RunBecomes d d' piece) (held'' : List ℕ) (asked : held'' ≡ next (next (next (next held' 4) 4) 4) 4) → shape (piece_taken piece named among' d' ran places images becomes held'' asked) ≡ (turn.so_far ++ RunPiece (name_of s.front.past piece) ∷ [], name_of s.front.past piece ∷ turn.done, turn.copied)
@@ -325,7 +343,7 @@ module _ (answer : List ℕ → ℕ → ℕ) (next : List ℕ → ℕ → List �
       pub part_taken : (j part : ℕ) → picked ≡ pieces + j → slice_get (backing.parts_left d.passes) j ≡ Some part → Contains (backing.parts_left d.passes) part → (d' : Device) → HasCopied d d' part → d'.offers ≡ d.offers → d.resources.resources ≡ d0.resources.resources → d.resources.shapes ≡ d0.resources.shapes → KeepsCells d.resources d'.resources → Turn t steps s d0 first x d' held'
       part_taken j part is_at here among' d' copies same places images cells =
           taken (CopyPart part) turn.done (part ∷ turn.copied) refl d' (copies t (steps ++ turn.so_far) now turn.led) (fewer_part part among' d' copies same)
-          (turn_part answer next now x (pick_of answer next held (option_count (pieces + parts) goes)) j part (sym pick_is ∙ is_at ∙ ap (λ (n : ℕ). n + j) counted) (ap (λ (l : List ℕ). slice_get l j) turn.led.passes.left ∙ here))
+          (part_at j part is_at here)
           places images (λ moved. cells_become d.resources d'.resources cells) held' refl
 
       pub part_shape : (j part : ℕ) (is_at : picked ≡ pieces + j) (here : slice_get (backing.parts_left d.passes) j ≡ Some part) (among' : Contains (backing.parts_left d.passes) part) (d' : Device) (copies : HasCopied d d' part) (same : d'.offers ≡ d.offers) (places : d.resources.resources ≡ d0.resources.resources) (images : d.resources.shapes ≡ d0.resources.shapes) (cells : KeepsCells d.resources d'.resources)

@@ -93,7 +93,7 @@ applied_left s n (entry.EndPass d kept lost) xs = refl
 applied_left s n _ xs = refl
 
 -- what comes after some items
-get_after : (xs ys : List ℕ) (y k : ℕ) → k ≡ length xs → get_or (xs ++ y ∷ ys) k 0 ≡ y
+pub get_after : (xs ys : List ℕ) (y k : ℕ) → k ≡ length xs → get_or (xs ++ y ∷ ys) k 0 ≡ y
 get_after [] ys y zero is = refl
 get_after [] ys y (suc k) is = absurd (omega (arith, is))
 get_after (x ∷ xs) ys y zero is = absurd (omega (arith, is))

@@ -6,7 +6,7 @@ use Rattle.vk_model.specs.Memory.HeapSizes.{HeapSizes}
 use Rattle.vk_model.specs.declared.entry.Entry.{Entry}
 use Rattle.vk_model.specs.World.Effect.{world}
 use Rattle.vk_model.specs.World.Meaning.{Reads, read_in, meaning}
-use Rattle.vk_model.specs.Memory.Allocations.{Allocated, ReachesWith, FindsNoRoom, Changes, nothing_allocated, parts_after}
+use Rattle.vk_model.specs.Memory.Allocations.{Allocated, ReachesWith, EndsOnWith, FindsNoRoom, Changes, nothing_allocated, parts_after}
 use Rattle.vk_model.specs.Memory.PassLaws.{PartsFollow}
 use Rattle.vk_model.specs.Run.Runs.{Step, Stage, start}
 use Rattle.vk_model.specs.Run.Picks.{Picked, entry_picks}
@@ -16,13 +16,57 @@ use Rattle.vk_model.proofs.Memory.Parts.{one_more as applied_more}
 use Rattle.vk_resources.specs.declared.applied.Applied.{Applied}
 use Rattle.vk_resources.specs.declared.applied.Applied.TheVariants as applied
 use Rattle.vk_backing.specs.PassAllots.{FulfilsAll}
+use Rattle.vk_backing.specs.Passing.{Passing}
+use Rattle.vk_resources.specs.Held.{Held}
 use Rattle.vk_resources.specs.Allocating.{IsAllocated, NoRoomIsExact, allotted}
 use Rattle.vk_device.specs.Passes.{AllotsAll, parts_begun}
 use Rattle.vk_device.specs.declared.device.Device.{Device}
 use Rattle.vk_device.specs.Led as led
 use Rattle.vk_device.specs.Led.{Led, IsBefore, IsNext, IsSoundTrace, Applies}
 use Rattle.vk_device.specs.Replays.{Ends}
-use Rattle.vk_device.proofs.TracePicks.{PicksTo, parts_in, front_more, picks_start, next_left, count_here, picks_on, picks_stop, picks_end, whole_meaning}
+use Rattle.vk_device.proofs.TracePicks.{PicksTo, parts_in, front_more, get_after, picks_start, next_left, picks_on, picks_stop, picks_end, whole_meaning}
+
+module _ (config : HeapSizes) (t : List Entry) where
+  -- what i entries have allocated, of which each that begins a pass has so many parts, whatever parts come later
+  pub record Allots (i : ℕ) (counts : List ℕ) (r : Held) (p : Passing) : Type 0 where
+    pub allocated : Allocated
+    pub has : FulfilsAll (allotted r) p allocated
+    pub reached : (later : List ℕ) → ReachesWith (parts_in (counts ++ later)) config (take i t) allocated
+
+  pub allots_start : (r : Held) (p : Passing) → FulfilsAll (allotted r) p (nothing_allocated config) → Allots 0 [] r p
+  allots_start r p has = record { allocated = nothing_allocated config; has = has; reached = λ later. refl }
+
+  -- and with one more, which finds room
+  pub allots_more : (i : ℕ) (counts : List ℕ) (r : Held) (p : Passing) (x : Entry) (n : ℕ) (r' : Held) (p' : Passing) → Allots i counts r p → length counts ≡ i → x ≡ get_or t i x → i < length t → ((a : Allocated) → IsAllocated r a → FindsNoRoom a x → ⊥)
+      → ((a : Allocated) → FulfilsAll (allotted r) p a → (e : Allocated) × Changes a x e × FulfilsAll (allotted r') p' e × (n ≡ parts_after e x)) → Allots (i + 1) (counts ++ n ∷ []) r' p'
+  allots_more i counts r p x n r' p' so_far size is lt room allots =
+      let e = allots so_far.allocated so_far.has in
+      let long : length (take i t) ≡ i = grind (arith, common_steps) in
+      record {
+        allocated = e.0;
+        has = e.2;
+        reached = λ later. subst (λ (l : List ℕ). ReachesWith (parts_in l) config (take (i + 1) t) e.0) (sym (append_assoc counts (n ∷ []) later)) (subst (λ (l : List Entry). ReachesWith (parts_in (counts ++ n ∷ later)) config l e.0) (sym (front_more t i x is lt))
+            (applied_more (parts_in (counts ++ n ∷ later)) 0 _ so_far.allocated e.0 (take i t) x (so_far.reached (n ∷ later)) (room so_far.allocated so_far.has.resources) e.1 (get_after counts later n (0 + length (take i t)) (omega (arith, long, size)) ∙ e.3)));
+      }
+
+  -- an entry that finds no room after them
+  pub allots_stop : PartsFollow → (i : ℕ) (counts : List ℕ) (r : Held) (p : Passing) (x : Entry) (so_far : Allots i counts r p) → x ≡ get_or t i x → i < length t → FindsNoRoom so_far.allocated x → EndsOnWith (parts_in (counts ++ [])) config t (Some i) so_far.allocated
+  allots_stop law i counts r p x so_far is lt no_room =
+      let parts = parts_in (counts ++ []) in (
+        so_far.reached [],
+        record {
+          reached = law.applied parts 0 (nothing_allocated config) (take i t) so_far.allocated (so_far.reached []);
+          stopped = x;
+          here = slice_get-get_or t i x lt ∙ ap (λ (y : Entry). Some y) (sym is);
+          no_room = no_room;
+        },
+      )
+
+  -- and all entries
+  pub allots_whole : (i : ℕ) (counts : List ℕ) (r : Held) (p : Passing) (so_far : Allots i counts r p) → length t ≤ i → EndsOnWith (parts_in (counts ++ [])) config t None so_far.allocated
+  allots_whole i counts r p so_far done =
+      let whole : take i t ≡ t = grind (arith, common_steps) in
+      subst (λ (l : List Entry). ReachesWith (parts_in (counts ++ [])) config l so_far.allocated) whole (so_far.reached [])
 
 module _ (answer : List ℕ → ℕ → ℕ) (next : List ℕ → ℕ → List ℕ) (config : HeapSizes) (t : List Entry) (held0 : List ℕ) where
   -- what holds after i entries, whatever parts come later
@@ -33,9 +77,7 @@ module _ (answer : List ℕ → ℕ → ℕ) (next : List ℕ → ℕ → List �
     pub counts : List ℕ
     pub picks : PicksTo answer next t held0 i reported counts steps stage held
     pub works : d.failed ≡ false
-    pub allocated : Allocated
-    pub has : FulfilsAll (allotted d.resources) d.passes allocated
-    pub reached : (later : List ℕ) → ReachesWith (parts_in (counts ++ later)) config (take i t) allocated
+    pub allots : Allots config t i counts d.resources d.passes
 
   pub replays_start : (d : Device) → Led t [] (start t) d → FulfilsAll (allotted d.resources) d.passes (nothing_allocated config) → d.failed ≡ false → Replays 0 [] d held0
   replays_start d led allocated works = record {
@@ -45,9 +87,7 @@ module _ (answer : List ℕ → ℕ → ℕ) (next : List ℕ → ℕ → List �
     counts = [];
     picks = picks_start answer next t held0;
     works = works;
-    allocated = nothing_allocated config;
-    has = allocated;
-    reached = λ later. refl;
+    allots = allots_start config t d.resources d.passes allocated;
   }
 
 module _ (answer : List ℕ → ℕ → ℕ) (next : List ℕ → ℕ → List ℕ) (config : HeapSizes) (t : List Entry) (held0 : List ℕ) (i : ℕ) (reported : Reads) (d : Device) (held : List ℕ) (x : Entry)
@@ -74,7 +114,6 @@ module _ (answer : List ℕ → ℕ → ℕ) (next : List ℕ → ℕ → List �
         → ((a : Allocated) → FulfilsAll (allotted d.resources) d.passes a → (e : Allocated) × Changes a x e × FulfilsAll (allotted d'.resources) d'.passes e × (parts_begun d'.passes x ≡ parts_after e x)) → d'.failed ≡ false → Replays answer next config t held0 (i + 1) (reported ++ new) d' held'
     replays_more lead_on run st led same_held gave room allots works =
         let p = entry_picks answer next begun s held x (drop (i + 1) t) in
-        let e = allots so_far.allocated so_far.has in
         record {
           steps = so_far.steps ++ p.steps;
           stage = p.stage;
@@ -82,12 +121,7 @@ module _ (answer : List ℕ → ℕ → ℕ) (next : List ℕ → ℕ → List �
           counts = so_far.counts ++ begun ∷ [];
           picks = picks_on answer next t held0 i reported so_far.counts so_far.steps s held so_far.picks x is lt begun (lead_on answer next t so_far.steps s held x (drop (i + 1) t) run sound.faultless next_is) st held' same_held new gave;
           works = works;
-          allocated = e.0;
-          has = e.2;
-          reached = λ later. subst (λ (l : List ℕ). ReachesWith (parts_in l) config (take (i + 1) t) e.0) (sym (append_assoc so_far.counts (begun ∷ []) later)) (subst (λ (l : List Entry). ReachesWith (parts_in (so_far.counts ++ begun ∷ later)) config l e.0) (sym (front_more t i x is lt))
-              (applied_more (parts_in (so_far.counts ++ begun ∷ later)) 0 _ so_far.allocated e.0 (take i t) x (so_far.reached (begun ∷ later)) (room so_far.allocated so_far.has.resources) e.1
-              (ap (parts_in (so_far.counts ++ begun ∷ later)) (let long : length (take i t) ≡ i = grind (arith, common_steps) in let here = so_far.picks.at in omega (arith, long, here))
-              ∙ count_here answer next t held0 i reported so_far.counts so_far.steps s held so_far.picks x is lt begun later ∙ e.3)));
+          allots = allots_more config t i so_far.counts d.resources d.passes x begun d'.resources d'.passes so_far.allots so_far.picks.long is lt room allots;
         }
 
   abbrev pub AppliesAt : Applied → Device → List ℕ → Type 0
@@ -117,35 +151,24 @@ module _ (answer : List ℕ → ℕ → ℕ) (next : List ℕ → ℕ → List �
   pub stops : PartsFollow → (d' : Device) (held' : List ℕ) (a : Applied) → a ≡ applied.NoRoom → AppliesAt a d' held' → NoRoomIsExact a d.resources x → AllotsAt a d' → Ends answer next config t (Some i) held0 d' held'
   stops law d' held' a no_room applies rooms allots =
       let now = subst (λ (b : Applied). AppliesAt b d' held') no_room applies t so_far.steps s (drop (i + 1) t) follows_before in
-      let parts = parts_in (so_far.counts ++ []) in
       record {
-        allocated = so_far.allocated;
-        held = subst (λ (b : Applied). AllotsAt b d') no_room allots so_far.allocated so_far.has;
-        parts = parts;
-        ends = (
-          so_far.reached [],
-          record {
-            reached = law.applied parts 0 (nothing_allocated config) (take i t) so_far.allocated (so_far.reached []);
-            stopped = x;
-            here = slice_get-get_or t i x lt ∙ ap (λ (y : Entry). Some y) (sym is);
-            no_room = subst (λ (b : Applied). NoRoomIsExact b d.resources x) no_room rooms so_far.allocated so_far.has.resources;
-          },
-        );
+        allocated = so_far.allots.allocated;
+        held = subst (λ (b : Applied). AllotsAll b x d.resources d.passes d'.resources d'.passes) no_room allots so_far.allots.allocated so_far.allots.has;
+        parts = parts_in (so_far.counts ++ []);
+        ends = allots_stop config t law i so_far.counts d.resources d.passes x so_far.allots is lt (subst (λ (b : Applied). NoRoomIsExact b d.resources x) no_room rooms so_far.allots.allocated so_far.allots.has.resources);
         led = subst (λ (p : Picked). Led t p.steps p.stage d' × (held' ≡ p.held)) (sym (picks_stop answer next t held0 i reported so_far.counts so_far.steps s held so_far.picks x is lt [])) now;
       }
 
 -- and at the end of the trace
 pub ends : (answer : List ℕ → ℕ → ℕ) (next : List ℕ → ℕ → List ℕ) (config : HeapSizes) (t : List Entry) (held0 : List ℕ) (i : ℕ) (reported : Reads) (d : Device) (held : List ℕ) → Replays answer next config t held0 i reported d held → length t ≤ i
     → (reported ≡ meaning t (length t)) × Ends answer next config t None held0 d held
-ends answer next config t held0 i reported d held so_far done =
-    let whole : take i t ≡ t = grind (arith, common_steps) in
-    let parts = parts_in (so_far.counts ++ []) in (
-      whole_meaning answer next t held0 i reported so_far.counts so_far.steps so_far.stage held so_far.picks done,
-      record {
-        allocated = so_far.allocated;
-        held = so_far.has;
-        parts = parts;
-        ends = subst (λ (l : List Entry). ReachesWith parts config l so_far.allocated) whole (so_far.reached []);
-        led = subst (λ (p : Picked). Led t p.steps p.stage d × (held ≡ p.held)) (sym (picks_end answer next t held0 i reported so_far.counts so_far.steps so_far.stage held so_far.picks done [])) (so_far.led, refl);
-      },
-    )
+ends answer next config t held0 i reported d held so_far done = (
+  whole_meaning answer next t held0 i reported so_far.counts so_far.steps so_far.stage held so_far.picks done,
+  record {
+    allocated = so_far.allots.allocated;
+    held = so_far.allots.has;
+    parts = parts_in (so_far.counts ++ []);
+    ends = allots_whole config t i so_far.counts d.resources d.passes so_far.allots done;
+    led = subst (λ (p : Picked). Led t p.steps p.stage d × (held ≡ p.held)) (sym (picks_end answer next t held0 i reported so_far.counts so_far.steps so_far.stage held so_far.picks done [])) (so_far.led, refl);
+  },
+)

@@ -27,10 +27,10 @@ module _ (answer : List ℕ → ℕ → ℕ) (next : List ℕ → ℕ → List �
     stage = r.stage;
     led = r.led;
     at = r.picks.at;
-    allocated = r.allocated;
-    held = r.has;
+    allocated = r.allots.allocated;
+    held = r.allots.has;
     parts = parts_in (r.counts ++ []);
-    reached = r.reached [];
+    reached = r.allots.reached [];
   }
 
   pub walks_start : (d : Device) (held : List ℕ) (states : List State) → states ≡ [] → Replays answer next config t held0 0 [] d held → Walks 0 states d held

@@ -5,31 +5,31 @@ use Rattle.vk_cached_device.proofs.replays.replay_entries.Goals as goal
 use Rattle.vk_cached_device.proofs.replays.replay_entries.Goals.{in-Done, in-Bytes+in_ok-push-in-Bytes}
 
 pub apply-requires : goal.apply-requires
-apply-requires g c = entry_ready g.S.Scheduler.answer g.S.Scheduler.next c.args.entries.now (g.S.Scheduler.held c.args.sched.now) c.loop-index.index c.loop-index.reads.items c.loop-index.device (g.S.Scheduler.held c.loop-index.sched) c.index-entries-index.result c.loop-index.invariant c.index-entries-index.is c.loop-index-test.true c.requires
+apply-requires g c = entry_ready g.S.Scheduler.answer g.S.Scheduler.next c.args.config c.args.entries.now (g.S.Scheduler.held c.args.sched.now) c.loop-index.index c.loop-index.reads.items c.loop-index.device (g.S.Scheduler.held c.loop-index.sched) c.index-entries-index.result c.loop-index.invariant c.index-entries-index.is c.loop-index-test.true c.requires
 
 pub returns-in-NoRoom-clause-meaning : goal.returns-in-NoRoom-clause-meaning
 returns-in-NoRoom-clause-meaning g c = c.new.ensures ∙ c.loop-index.invariant.picks.same
 
-pub returns-in-NoRoom-clause-led : goal.returns-in-NoRoom-clause-led
-returns-in-NoRoom-clause-led g c =
-    stops g.S.Scheduler.answer g.S.Scheduler.next c.args.entries.now (g.S.Scheduler.held c.args.sched.now) c.loop-index.index c.loop-index.reads.items c.loop-index.device (g.S.Scheduler.held c.loop-index.sched) c.index-entries-index.result c.loop-index.invariant c.index-entries-index.is c.loop-index-test.true c.requires
-    c.apply.new.self (g.S.Scheduler.held c.apply.new.sched) c.in_ok-apply.field-0 c.in-NoRoom.is c.in_ok-apply.ensures.applied
+pub returns-in-NoRoom-clause-stop : goal.returns-in-NoRoom-clause-stop
+returns-in-NoRoom-clause-stop g c =
+    stops g.S.Scheduler.answer g.S.Scheduler.next c.args.config c.args.entries.now (g.S.Scheduler.held c.args.sched.now) c.loop-index.index c.loop-index.reads.items c.loop-index.device (g.S.Scheduler.held c.loop-index.sched) c.index-entries-index.result c.loop-index.invariant c.index-entries-index.is c.loop-index-test.true c.requires
+    c.parts_follow.ensures c.apply.new.self (g.S.Scheduler.held c.apply.new.sched) c.in_ok-apply.field-0 c.in-NoRoom.is c.in_ok-apply.ensures.applied c.in_ok-apply.ensures.rooms c.in_ok-apply.ensures.allots
 
 pub loop-index-preserved : goal.loop-index-preserved
 loop-index-preserved g c = elim c.match-branch-2.branch [
-  | in-Done w ↦ rw w.reads-is (after_done g.S.Scheduler.answer g.S.Scheduler.next c.args.entries.now (g.S.Scheduler.held c.args.sched.now) c.loop-index.index c.loop-index.reads.items c.loop-index.device (g.S.Scheduler.held c.loop-index.sched) c.index-entries-index.result c.loop-index.invariant c.index-entries-index.is c.loop-index-test.true c.requires
-      c.direct_runs_are_runs.ensures c.defined_runs_follow.ensures c.picks_are_runs.ensures.lead_on c.apply.new.self (g.S.Scheduler.held c.apply.new.sched) c.in_ok-apply.field-0 c.in_ok-apply.ensures.applied c.in_ok-apply.ensures.reads c.in_ok-apply.ensures.works.1 w.in-Done.is)
-  | in-Bytes+in_ok-push-in-Bytes w ↦ rw (w.reads-is, w.in_ok-push-in-Bytes.ensures.items) (after_bytes g.S.Scheduler.answer g.S.Scheduler.next c.args.entries.now (g.S.Scheduler.held c.args.sched.now) c.loop-index.index c.loop-index.reads.items c.loop-index.device (g.S.Scheduler.held c.loop-index.sched) c.index-entries-index.result c.loop-index.invariant c.index-entries-index.is c.loop-index-test.true c.requires
-      c.direct_runs_are_runs.ensures c.defined_runs_follow.ensures c.picks_are_runs.ensures.lead_on c.apply.new.self (g.S.Scheduler.held c.apply.new.sched) c.in_ok-apply.field-0 c.in_ok-apply.ensures.applied c.in_ok-apply.ensures.reads c.in_ok-apply.ensures.works.1 w.in-Bytes.bytes w.in-Bytes.is)
+  | in-Done w ↦ rw w.reads-is (after_done g.S.Scheduler.answer g.S.Scheduler.next c.args.config c.args.entries.now (g.S.Scheduler.held c.args.sched.now) c.loop-index.index c.loop-index.reads.items c.loop-index.device (g.S.Scheduler.held c.loop-index.sched) c.index-entries-index.result c.loop-index.invariant c.index-entries-index.is c.loop-index-test.true c.requires
+      c.direct_runs_are_runs.ensures c.defined_runs_follow.ensures c.picks_are_runs.ensures.lead_on c.apply.new.self (g.S.Scheduler.held c.apply.new.sched) c.in_ok-apply.field-0 c.in_ok-apply.ensures.applied c.in_ok-apply.ensures.reads c.in_ok-apply.ensures.rooms c.in_ok-apply.ensures.allots c.in_ok-apply.ensures.works.1 w.in-Done.is)
+  | in-Bytes+in_ok-push-in-Bytes w ↦ rw (w.reads-is, w.in_ok-push-in-Bytes.ensures.items) (after_bytes g.S.Scheduler.answer g.S.Scheduler.next c.args.config c.args.entries.now (g.S.Scheduler.held c.args.sched.now) c.loop-index.index c.loop-index.reads.items c.loop-index.device (g.S.Scheduler.held c.loop-index.sched) c.index-entries-index.result c.loop-index.invariant c.index-entries-index.is c.loop-index-test.true c.requires
+      c.direct_runs_are_runs.ensures c.defined_runs_follow.ensures c.picks_are_runs.ensures.lead_on c.apply.new.self (g.S.Scheduler.held c.apply.new.sched) c.in_ok-apply.field-0 c.in_ok-apply.ensures.applied c.in_ok-apply.ensures.reads c.in_ok-apply.ensures.rooms c.in_ok-apply.ensures.allots c.in_ok-apply.ensures.works.1 w.in-Bytes.bytes w.in-Bytes.is)
 ]
 
 pub loop-index-init : goal.loop-index-init
-loop-index-init g c = rw c.new-reads.ensures.items (replays_start g.S.Scheduler.answer g.S.Scheduler.next c.args.entries.now (g.S.Scheduler.held c.args.sched.now) c.new-device.result c.new-device.ensures.led c.new-device.ensures.works)
+loop-index-init g c = rw c.new-reads.ensures.items (replays_start g.S.Scheduler.answer g.S.Scheduler.next c.args.config c.args.entries.now (g.S.Scheduler.held c.args.sched.now) c.new-device.result c.new-device.ensures.led c.new-device.ensures.allocated c.new-device.ensures.works)
 
 pub returns-clause-meaning : goal.returns-clause-meaning
 returns-clause-meaning g c =
     c.new-2.ensures ∙ whole_meaning g.S.Scheduler.answer g.S.Scheduler.next c.args.entries.now (g.S.Scheduler.held c.args.sched.now) c.loop-index.index c.loop-index.reads.items c.loop-index.invariant.counts c.loop-index.invariant.steps c.loop-index.invariant.stage (g.S.Scheduler.held c.loop-index.sched) c.loop-index.invariant.picks c.loop-index-test.false
 
-pub returns-clause-led : goal.returns-clause-led
-returns-clause-led g c =
-    ends g.S.Scheduler.answer g.S.Scheduler.next c.args.entries.now (g.S.Scheduler.held c.args.sched.now) c.loop-index.index c.loop-index.reads.items c.loop-index.device (g.S.Scheduler.held c.loop-index.sched) c.loop-index.invariant c.loop-index-test.false
+pub returns-clause-stop : goal.returns-clause-stop
+returns-clause-stop g c =
+    ends g.S.Scheduler.answer g.S.Scheduler.next c.args.config c.args.entries.now (g.S.Scheduler.held c.args.sched.now) c.loop-index.index c.loop-index.reads.items c.loop-index.device (g.S.Scheduler.held c.loop-index.sched) c.loop-index.invariant c.loop-index-test.false

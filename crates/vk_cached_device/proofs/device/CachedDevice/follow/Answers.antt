@@ -3,7 +3,7 @@ use Rattle.std.proofs.lemmas.List.{take_all}
 use Rattle.vk_model.specs.declared.entry.Entry.{Entry}
 use Rattle.vk_model.specs.Trace.Objects.{ended_by, resource_in}
 use Rattle.vk_cached_device.specs.declared.device.CachedDevice.{CachedDevice}
-use Rattle.vk_cached_device.specs.Inner.{moved_at}
+use Rattle.vk_cached_device.specs.Applies.{moved_at}
 use Rattle.vk_cached_device.proofs.Moving.{StayBut, stay_more, follows_ended, follows_moved}
 use Rattle.vk_cached_device.proofs.device.CachedDevice.follow.Goals as goal
 

@@ -36,9 +36,9 @@ returns-clause-ran c t steps s memory late led sound =
       node.0,
       node.1,
       has_run t steps s memory late c.args.self.now led sound c.args.piece at c.late_runs_go_on.ensures.pieces c.step.new.self c.make_late.new.lags c.finish.new.self c.settle.new.self c.written-written.result c.index-writer.result.now
-          (record { ran = c.in-Ok.ensures.ran; becomes = c.in-Ok.ensures.becomes; placed = c.step.ensures.placed; shapes = c.step.ensures.shapes }) c.step.ensures.failed (c.written-written.ensures t steps s led.led sound) here
+          (record { ran = c.in-Ok.ensures.ran; written = c.in-Ok.ensures.written; becomes = c.in-Ok.ensures.becomes; placed = c.step.ensures.placed; shapes = c.step.ensures.shapes; same_allotted = c.step.ensures.allotted; stays = c.step.ensures.stays }) c.step.ensures.failed (c.written-written.ensures t steps s led.led sound) here
           (subst (λ (r : Held). BecomesBehind r c.args.self.now.lags c.make_late.new.lags c.written-written.result c.index-writer.result.now) c.resources.ensures c.make_late.ensures.behind) c.make_late.ensures.room c.finish.ensures c.settle.ensures,
     )
 
 pub returns-clause-plain : goal.returns-clause-plain
-returns-clause-plain c = subst (λ (d : CachedDevice). RunsPlain c.args.self.now.device d.device c.args.piece) (sym c.settle.ensures.same) (record { ran = c.in-Ok.ensures.ran; becomes = c.in-Ok.ensures.becomes; placed = c.step.ensures.placed; shapes = c.step.ensures.shapes })
+returns-clause-plain c = subst (λ (d : CachedDevice). RunsPlain c.args.self.now.device d.device c.args.piece) (sym c.settle.ensures.same) (record { ran = c.in-Ok.ensures.ran; written = c.in-Ok.ensures.written; becomes = c.in-Ok.ensures.becomes; placed = c.step.ensures.placed; shapes = c.step.ensures.shapes; same_allotted = c.step.ensures.allotted; stays = c.step.ensures.stays })
