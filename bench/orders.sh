@@ -1,7 +1,7 @@
 #!/bin/bash
 # Measures the program on traces whose commands need no order, under each order that it can be asked
 # for: many fills of a word, of which all may run next at once, in two sizes, and one fill of many
-# pieces (bench/common.sh).
+# pieces; and the same where queues have caches (bench/common.sh).
 . "$(dirname "${BASH_SOURCE[0]}")/common.sh"
 
 # SIZE: the beginning of a trace that fills a buffer of this size on memory type 1.
@@ -53,4 +53,6 @@ heading
 rows first --order first
 rows last --order last
 rows seed_1 --order seed --seed 1
+rows last_cached --order last --caches
+rows seed_1_cached --order seed --seed 1 --caches
 finish

@@ -27,6 +27,7 @@ Options:
       --order <ORDER>  Which of the pieces of commands that may run next is run [default: first] \
 [possible values: first, last, seed]
       --seed <N>       Where --order seed begins [default: 0]
+      --caches         Replay on a device whose queues each keep a write-back cache
       --heap0 <BYTES>  The size of heap 0, device memory [default: 4194304]
       --heap1 <BYTES>  The size of heap 1, host memory [default: 4194304]
   -h, --help           Print help
@@ -98,6 +99,8 @@ def taken_tests():
     # (a seed is read, and not used, with another order)
     yield replayed(["--seed", "7", "--order", "last"])
     yield replayed(["--order=first", "--seed=7"])
+    yield replayed(["--caches"])
+    yield replayed(["--order", "last", "--caches", "--heap1", "65536"])
     yield replayed(["--"])
 
 
@@ -119,6 +122,8 @@ def refused_tests():
         twice = f"error: the argument '{name}' cannot be used multiple times\n"
         yield refused([option, value, option, value], f"{twice}{USAGE}{MORE}")
         yield refused([f"{option}={value}", option, other], f"{twice}{USAGE}{MORE}")
+    caches = "error: the argument '--caches' cannot be used multiple times\n"
+    yield refused(["--caches", "--caches"], f"{caches}{USAGE}{MORE}")
     for argument in ("--nothing", "more", "-x", "-1", "first"):
         yield refused([argument], f"error: unexpected argument '{argument}' found\n{USAGE}{MORE}")
     yield refused(["--", "more"], f"error: unexpected argument 'more' found\n{USAGE}{MORE}")

@@ -39,6 +39,7 @@ STREAMED = ("first_upload", "destroyed_in_use", "full_heap", "no_traces/misspell
 WAYS = [
     ("replay", ("replay",)),
     ("replay --order seed", ("replay", "--order", "seed", "--seed", "7")),
+    ("replay --caches", ("replay", "--order", "seed", "--seed", "7", "--caches")),
     ("explain", ("explain",)),
     ("explain --json", ("explain", "--json")),
     ("explain --repaired", ("explain", "--repaired")),

@@ -4,8 +4,8 @@
     PROGRAM=FILE EXPLAIN=FILE tests/worked.py [WORD]
 
 With WORD only those run whose names have it. Each trace whose entries are replayed, all of them or up to one
-without room, is run under `first`, `last` and the seeds 0 to 15: output, exit status and standard error are the
-same under each. Others are run once. What `explain` says of each has the same verdict. Of the pairs of
+without room, is run under `first`, `last` and the seeds 0 to 15, with `--caches` and without: output, exit
+status and standard error are the same under each. Others are run once. What `explain` says of each has the same verdict. Of the pairs of
 examples/rules/, which docs/judge runs too, the corrected ones are run in every order, and nothing else is asked.
 
 A file of tests/worked/ is an array of objects, each of a trace:
@@ -31,6 +31,8 @@ ORDERS = [
     ["--order", "last"],
     *(["--order", "seed", "--seed", str(seed)] for seed in range(16)),
 ]
+# The same on a device whose queues have caches.
+ORDERS += [[*order, "--caches"] for order in ORDERS]
 REPLAYED, REFUSED, NO_TRACE, STOPPED = 0, 1, 2, 3
 
 

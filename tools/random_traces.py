@@ -4,7 +4,8 @@
     tools/random_traces.py --count 2000 --seed 1 crates/vk_replay/out/vk_replay
 
 Each trace is drawn from the seed and its number (drawing.py), and run with `--order first`, with `last`,
-and with the seeds 0 to 15: output, exit status and standard error have to be the same. They also have to
+and with the seeds 0 to 15, and with `--caches` with `first`, `last` and the seeds 0 and 1, or with all of
+these orders (`--all-cached`): output, exit status and standard error have to be the same. They also have to
 be those of the slow reading (slow_reading.py), unless `--orders-only` is given. As many traces are run side
 by side as there are processors. The first difference is made as small as leaving out entries, batches,
 commands and elements makes it, and printed; no more are run then. At the end it is printed what was drawn,
@@ -32,6 +33,9 @@ from slow_reading import read
 from slow_room import in_pool
 
 ORDERS = [("first",), ("last",), *(("seed", "--seed", str(seed)) for seed in range(16))]
+# The same on a device whose queues have caches.
+CACHED = [(*order, "--caches") for order in ORDERS]
+FEW_CACHED = CACHED[:4]
 PIECE = 4_096
 SECONDS = 60
 # A difference is no longer made smaller then.
@@ -57,7 +61,7 @@ def run(program, trace, heaps, order):
     return ended.stdout.decode(), ended.returncode, ended.stderr.decode()
 
 
-def difference(program, trace, heaps, reading, orders=ORDERS):
+def difference(program, trace, heaps, reading, orders):
     """The order in which the answer differs from that of the first order, or the first order where it
     isn't that of the slow reading, if there is one, with both answers; nothing where all agree."""
     first = run(program, trace, heaps, orders[0])
@@ -184,8 +188,8 @@ def count_trace(reading, counts, rules):
         rules[reading.fault.split()[2]] += 1
 
 
-def print_counts(drawn, counts, rules):
-    print(f"{drawn} traces, each in {len(ORDERS)} orders: no difference")
+def print_counts(drawn, orders, counts, rules):
+    print(f"{drawn} traces, each in {orders} orders: no difference")
     for name, count in counts.items():
         print(f"  {count:7} {name}")
     for rule, count in rules.most_common():
@@ -212,7 +216,14 @@ def arguments():
     only_help = "runs the trace of this number alone, and prints it"
     parser.add_argument("--only", type=int, help=only_help)
     parser.add_argument("--orders-only", action="store_true", help="compares the orders alone")
+    all_help = "runs each order with --caches too, and not four of them alone"
+    parser.add_argument("--all-cached", action="store_true", help=all_help)
     return parser.parse_args()
+
+
+def orders_of(options):
+    """The orders in which each trace is run."""
+    return [*ORDERS, *(CACHED if options.all_cached else FEW_CACHED)]
 
 
 def judged(task):
@@ -221,7 +232,8 @@ def judged(task):
     trace, heaps = draw(random.Random(f"{options.seed}/{number}"))
     counts, rules = Counter(), Counter()
     reading = read(trace, heaps)
-    found = difference(options.program, trace, heaps, None if options.orders_only else reading)
+    wanted = None if options.orders_only else reading
+    found = difference(options.program, trace, heaps, wanted, orders_of(options))
     if found is None:
         count_trace(reading, counts, rules)
     return found, counts, rules
@@ -256,7 +268,7 @@ def run_all(options, numbers):
             counts.update(more)
             rules.update(broken)
     progress.clear()
-    print_counts(len(numbers), counts, rules)
+    print_counts(len(numbers), len(orders_of(options)), counts, rules)
     return len(numbers), 0
 
 

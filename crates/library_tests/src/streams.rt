@@ -8,7 +8,7 @@ use std::io;
 use std::io::{ErrorKind, Read, Write};
 use std::process::Abort;
 use vk_model::First;
-use vk_run::run;
+use vk_run::{QueueCaches, run};
 use vk_trace::{RunError, Watched};
 
 /// Gives its bytes, 16 at most in each read, and an error after some reads.
@@ -78,7 +78,14 @@ fn run_failing_reader(alloc: Global, reads: usize) -> (Ending, bool, Vec<u8>) {
     let bytes = FILL_AND_READ.as_bytes();
     let mut reader = Watched::new(FailingReader { bytes, reads });
     let mut writer = Watched::new(Vec::new(alloc));
-    let ending = run(alloc, &mut reader, &mut writer, config(), &mut First);
+    let ending = run(
+        alloc,
+        &mut reader,
+        &mut writer,
+        config(),
+        QueueCaches::Without,
+        &mut First,
+    );
     (ending, reader.failed(), writer.into_inner())
 }
 
@@ -104,7 +111,14 @@ fn expect_read_error(rt: &impl Abort, alloc: Global, reads: usize) {
 fn run_short_writer(alloc: Global, room: usize, fails: bool) -> (Ending, bool, ShortWriter) {
     let mut reader = Watched::new(FILL_AND_READ.as_bytes());
     let mut writer = Watched::new(ShortWriter::new(room, fails));
-    let ending = run(alloc, &mut reader, &mut writer, config(), &mut First);
+    let ending = run(
+        alloc,
+        &mut reader,
+        &mut writer,
+        config(),
+        QueueCaches::Without,
+        &mut First,
+    );
     (ending, writer.failed(), writer.into_inner())
 }
 

@@ -9,7 +9,7 @@ use std::alloc::{AllocError, Global};
 use vk_model::{Config, Entry, First};
 use vk_queues::Waiting;
 use vk_row_text::Step;
-use vk_run::outcome_of;
+use vk_run::{QueueCaches, outcome_of};
 use vk_trace::Outcome;
 
 /// What is performed of a trace, and what it has to give.
@@ -33,7 +33,7 @@ pub fn plan_of<'a>(
 ) -> Result<Plan<'a>, AllocError>
     ensures { IfOk result (IsPlan config entries.now) }
 {
-    let outcome = outcome_of(alloc, entries, config, &mut First)?;
+    let outcome = outcome_of(alloc, entries, config, QueueCaches::Without, &mut First)?;
     let steps = steps_of(alloc, performed(entries, &outcome))?;
     Ok(Plan { steps, outcome })
 }

@@ -5,12 +5,12 @@ mod exit;
 mod options;
 
 use exit::exit_status;
-use options::Order;
+use options::{Options, Order};
 use std::io;
 use std::process::ExitCode;
 use std::rt::Env;
 use vk_console::{arguments, complain, refuse};
-use vk_model::{Config, First, Last, Scheduler, Seeded};
+use vk_model::{First, Last, Scheduler, Seeded};
 use vk_run::run;
 use vk_trace::Watched;
 
@@ -25,21 +25,22 @@ fn perform<R: Env + Input + Print + Eprint + AllocGlobal>(rt: &R) -> u8 {
         Err(error) => return refuse(rt, error),
     };
     match options.order {
-        Order::First => replay(rt, options.config, &mut First),
-        Order::Last => replay(rt, options.config, &mut Last),
-        Order::Seed(seed) => replay(rt, options.config, &mut Seeded::new(seed)),
+        Order::First => replay(rt, &options, &mut First),
+        Order::Last => replay(rt, &options, &mut Last),
+        Order::Seed(seed) => replay(rt, &options, &mut Seeded::new(seed)),
     }
 }
 
 /// Replays the standard input, and answers the exit status.
 fn replay<R: Env + Input + Print + Eprint + AllocGlobal, S: Scheduler>(
     rt: &R,
-    config: Config,
+    options: &Options,
     sched: &mut S,
 ) -> u8 {
     let mut reader = Watched::new(rt.reader());
     let mut writer = Watched::new(io::writer(rt));
-    match run(rt.alloc(), &mut reader, &mut writer, config, sched) {
+    let (config, caches) = (options.config, options.caches);
+    match run(rt.alloc(), &mut reader, &mut writer, config, caches, sched) {
         Ok(status) => exit_status(status),
         Err(error) => complain(rt, error),
     }

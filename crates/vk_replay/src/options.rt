@@ -1,7 +1,8 @@
-use clap::{Arg, ArgMatches, Command, value_parser};
+use clap::{Arg, ArgAction, ArgMatches, Command, value_parser};
 use std::alloc::{AllocError, Global};
 use vk_console::OptionsError;
 use vk_model::Config;
+use vk_run::QueueCaches;
 
 /// Which of the pieces and entries that may come next is picked.
 #[derive(Clone, Copy, Debug, Drop, PartialEq, Eq)]
@@ -21,6 +22,8 @@ pub struct Options {
     pub config: Config,
     /// Which order is tried.
     pub order: Order,
+    /// Whether the device's queues have caches.
+    pub caches: QueueCaches,
 }
 
 /// Bytes of each heap where nothing else is said.
@@ -40,6 +43,10 @@ fn command<'a>(alloc: Global) -> Result<Command<'a>, AllocError> {
         .value_parser(value_parser!(u64))
         .default_value("0")
         .help("Where --order seed begins");
+    let caches = Arg::new(alloc, "caches")
+        .long("caches")
+        .action(ArgAction::SetTrue)
+        .help("Replay on a device whose queues each keep a write-back cache");
     let heap0 = Arg::new(alloc, "heap0")
         .long("heap0")
         .value_name("BYTES")
@@ -58,6 +65,7 @@ fn command<'a>(alloc: Global) -> Result<Command<'a>, AllocError> {
         )
         .arg(order)?
         .arg(seed)?
+        .arg(caches)?
         .arg(heap0)?
         .arg(heap1)
 }
@@ -72,14 +80,28 @@ fn order_of(matches: &ArgMatches<'_>) -> Order {
     }
 }
 
+/// Whether caches of queues are asked for.
+fn caches_of(matches: &ArgMatches<'_>) -> QueueCaches {
+    if matches.get_flag("caches") {
+        QueueCaches::With
+    } else {
+        QueueCaches::Without
+    }
+}
+
 /// What the arguments ask for; the first one is the program's own name.
 pub fn read(alloc: Global, arguments: &[String]) -> Result<Options, OptionsError> {
     let matches = command(alloc)?.try_get_matches_from(arguments)?;
     let heap0 = matches.get_one::<u64>("heap0").unwrap_or(HEAP_BYTES);
     let heap1 = matches.get_one::<u64>("heap1").unwrap_or(HEAP_BYTES);
     let order = order_of(&matches);
+    let caches = caches_of(&matches);
     match Config::new(heap0, heap1) {
-        Some(config) => Ok(Options { config, order }),
+        Some(config) => Ok(Options {
+            config,
+            order,
+            caches,
+        }),
         None => Err(OptionsError::NoMemory),
     }
 }

@@ -2,6 +2,8 @@
 //! and answered.
 #![tactic(auto)]
 
+mod replaying;
 mod running;
 
+pub use replaying::QueueCaches;
 pub use running::{Answer, Status, answer_of, outcome_of, run};

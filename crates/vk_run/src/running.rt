@@ -7,11 +7,11 @@ ghost use Rattle.vk_trace.specs.Watching.{counted};
 ghost use Rattle.vk_trace.specs.Streams.{IsBeforeWriting, IsJudged};
 ghost use Rattle.vk_run.specs.Run.{Reports, IsAnswer, IsAnswerThroughCaches, Leaves, status_of};
 
+use crate::replaying::{QueueCaches, reported};
 use std::alloc::{AllocError, Global};
 use std::io::{Read, Write};
 use vk_cache_laws::cached_runs_read_the_meaning;
-use vk_device::{Replayed, replay};
-use vk_model::{Config, Entry, Scheduler, parts_follow};
+use vk_model::{Config, Entry, Scheduler};
 use vk_trace::{Outcome, ReadTraceError, RunError, Watched, read_all, read_trace, text, write_all};
 use vk_validate::{Verdict, validate};
 
@@ -38,12 +38,13 @@ pub struct Answer {
 /// Reads a trace to its end, looks for a broken rule, replays it where there is none, and writes the
 /// text of the answer: the bytes that the trace means, up to the first entry that finds no room in heaps
 /// of these sizes, or a refusal. Nothing is written before the whole text is built, so only `WriteFault` has
-/// written a front of it. Nothing is flushed.
+/// written a front of it. Nothing is flushed. With caches of queues and without the answer is the same.
 pub fn run<R: Read, W: Write, S: Scheduler>(
     alloc: Global,
     reader: &mut Watched<R>,
     writer: &mut Watched<W>,
     config: Config,
+    caches: QueueCaches,
     sched: &mut S,
 ) -> Result<Status, RunError>
     requires reads { reader.old.failed ≡ false }
@@ -83,7 +84,7 @@ pub fn run<R: Read, W: Write, S: Scheduler>(
     ensures uncalled { IfErr result (λ e. IsBeforeWriting e → writer.new ≡ writer.old) }
 {
     let input = read_all(alloc, reader)?;
-    match answer_of(alloc, &input, config, sched) {
+    match answer_of(alloc, &input, config, caches, sched) {
         Ok(answer) => {
             write_all(writer, answer.text.as_bytes())?;
             Ok(answer.status)
@@ -100,6 +101,7 @@ pub fn answer_of<S: Scheduler>(
     alloc: Global,
     input: &[u8],
     config: Config,
+    caches: QueueCaches,
     sched: &mut S,
 ) -> Result<Answer, ReadTraceError>
     ensures answered { IfOk result (λ a. (outcome : Outcome) × (r : Reports config input.now (string_bytes a.text) outcome) × (a.status ≡ status_of outcome)
@@ -108,7 +110,7 @@ pub fn answer_of<S: Scheduler>(
     ensures view { result ≡ Err ReadTraceError.NotTrace → S.held sched.new ≡ S.held sched.old }
 {
     let entries = read_trace(alloc, input)?;
-    let outcome = outcome_of(alloc, &entries, config, sched)?;
+    let outcome = outcome_of(alloc, &entries, config, caches, sched)?;
     let status = answer_status(&outcome);
     let text = text(alloc, &outcome)?;
     Ok(Answer { status, text })
@@ -130,26 +132,20 @@ pub fn outcome_of<S: Scheduler>(
     alloc: Global,
     entries: &[Entry],
     config: Config,
+    caches: QueueCaches,
     sched: &mut S,
 ) -> Result<Outcome, AllocError>
     ensures answer { IfOk result (IsAnswer config entries.now) }
-    // The same is read on a device whose queues each keep a write-back cache.
+    // The same is read on every device whose queues each keep a write-back cache.
     ensures caches { IfOk result (IsAnswerThroughCaches entries.now) }
     ensures view { IfOk result (λ outcome. Leaves config S.answer S.next entries.now outcome (S.held sched.old) (S.held sched.new)) }
 {
-    parts_follow();
     cached_runs_read_the_meaning();
     match validate(alloc, entries)? {
         Verdict::Refused(at, rule) => Ok(Outcome::Refused(at, rule)),
-        Verdict::Accepted(accepted) => match replay(alloc, &accepted, config, sched) {
-            Ok(
-                Replayed {
-                    reads,
-                    stop,
-                    device: _,
-                },
-            ) => Ok(Outcome::Reads(reads, stop)),
-            Err(_) => Err(AllocError),
-        },
+        Verdict::Accepted(accepted) => {
+            let outcome = reported(alloc, &accepted, config, caches, sched)?;
+            Ok(outcome)
+        }
     }
 }

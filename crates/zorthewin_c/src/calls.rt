@@ -7,7 +7,7 @@ ghost use Rattle.zorthewin_c.specs.Calls.{IsHanded, IsNothing, replay_number, ju
 use std::alloc::Global;
 use vk_explain::{Explanation, Form, Judgment, Wanted, explanation_of, repaired_of};
 use vk_model::{Config, First, Last, Scheduler, Seeded};
-use vk_run::{Status, answer_of};
+use vk_run::{QueueCaches, Status, answer_of};
 use vk_trace::ReadTraceError;
 
 /// The trace was replayed; it is accepted.
@@ -66,7 +66,7 @@ fn replay_by<S: Scheduler>(
     ensures { ReplayComes config trace.now out.old out.new length.new result }
 {
     *length = 0;
-    match answer_of(alloc, trace, config, sched) {
+    match answer_of(alloc, trace, config, QueueCaches::Without, sched) {
         Ok(answer) => {
             hand_out(answer.text.as_bytes(), out, length);
             number_of_status(answer.status)

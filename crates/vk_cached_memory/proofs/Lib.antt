@@ -1,4 +1,0 @@
-pub mod Agents
-pub mod Changing
-pub mod Allocating
-pub mod Hosting

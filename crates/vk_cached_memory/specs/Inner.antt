@@ -1,3 +1,0 @@
--- What only the contracts within the crate cite.
-pub mod IsCaching
-pub mod Rooms

@@ -1,2 +1,0 @@
-pub mod CachedState
-pub mod Inner
