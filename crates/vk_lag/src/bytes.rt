@@ -1,18 +1,16 @@
-ghost use Rattle.std.specs.Prelude.{◌≡◌, ◌<◌, ◌≤◌, ◌+◌, ◌-◌, ℕ, if◌then◌else◌, length, replicate, slice_index, IfOk, Some, None};
+ghost use Rattle.std.specs.Prelude.{◌≡◌, ◌<◌, ◌≤◌, ◌+◌, ℕ, if◌then◌else◌, length, replicate, slice_index, IfOk, Some, None};
 ghost use Rattle.vk_lag.specs.Lags.{late_in, is_between, caught_up, in_memory};
 
-use crate::late::{Due, Late, Writer, catch_up, look, make_late};
+use crate::chunks::Chunks;
+use crate::late::{Due, Late, Writer};
 use std::alloc::{AllocError, Global};
 use std::marker::Model;
 use vk_heap::Region;
 
-/// How many bytes are taken from a region at a time.
-const CHUNK: usize = 256;
-
 /// Which bytes of a resource are late. Contracts see that of each byte.
 #[derive(Drop)]
 pub(crate) struct LateBytes {
-    bytes: Vec<Option<Late>>,
+    bytes: Chunks,
     /// Before this byte none is late.
     low: usize,
     /// From this byte on none is late.
@@ -20,16 +18,15 @@ pub(crate) struct LateBytes {
 }
 
 impl Model for LateBytes {
-    ghost use Rattle.std.specs.Prelude.{ℕ, ◌≡◌, ◌≤◌, ◌<◌, List, Option, Some, length};
+    ghost use Rattle.std.specs.Prelude.{List, Option};
     ghost use Rattle.vk_lag.specs.declared.late.Late.{Late};
-    ghost use Rattle.vk_lag.specs.Lags.{late_in};
     ghost use Rattle.vk_lag.specs.Inner.{AreLateBetween};
 
     ghost Value = { List (Option Late) };
 
-    ghost view = { λ b. b.bytes.items };
+    ghost view = { λ b. b.bytes };
 
-    ghost invariant = { λ b. AreLateBetween b.bytes.items b.low b.high };
+    ghost invariant = { λ b. AreLateBetween b.bytes b.low b.high };
 }
 
 impl LateBytes {
@@ -37,10 +34,8 @@ impl LateBytes {
     pub(crate) fn new(alloc: Global, size: usize) -> Result<LateBytes, AllocError>
         ensures { IfOk result (λ b. b ≡ replicate size None) }
     {
-        let mut bytes = Vec::new(alloc);
-        bytes.resize(size, None)?;
         Ok(LateBytes {
-            bytes,
+            bytes: Chunks::new(alloc, size)?,
             low: 0,
             high: 0,
         })
@@ -50,29 +45,7 @@ impl LateBytes {
     pub(crate) fn late(&self, at: usize) -> Option<Late>
         ensures { result ≡ late_in self.now at }
     {
-        match self.bytes.as_slice().get(at) {
-            Some(byte) => *byte,
-            None => None,
-        }
-    }
-
-    /// Bytes from byte `at` on become late, of which memory still has these values.
-    pub(crate) fn write(&mut self, at: usize, values: &[u8], writer: Writer)
-        requires { at + length values.now ≤ length self.old }
-        ensures len { length self.new ≡ length self.old }
-        ensures bytes { (k : ℕ) → late_in self.new k
-            ≡ (if is_between at (at + length values.now) k then Some (record { writer = writer; value = slice_index values.now (k - at) }) else late_in self.old k) }
-    {
-        let _size = self.bytes.len();
-        let end = at + values.len();
-        make_late(&mut self.bytes, at, values, writer);
-        if self.low < self.high {
-            self.low = self.low.min(at);
-            self.high = self.high.max(end);
-        } else {
-            self.low = at;
-            self.high = end;
-        }
+        self.bytes.late(at)
     }
 
     /// So many bytes from byte `at` on become late, of which memory still has what a region has: byte `k`
@@ -91,29 +64,16 @@ impl LateBytes {
         ensures bytes { (k : ℕ) → late_in self.new k
             ≡ (if is_between at (at + size) k then Some (record { writer = writer; value = slice_index region.now (base + k) }) else late_in self.old k) }
     {
-        let _sizes = (self.bytes.len(), region.size());
-        let mut done = 0;
-        while done < size {
-            let count = CHUNK.min(size - done);
-            self.write_chunk(at + done, count, region, base, writer);
-            done += count;
+        let _size = self.bytes.size();
+        let end = at + size;
+        self.bytes.write_from(at, size, region, base, writer);
+        if self.low < self.high {
+            self.low = self.low.min(at);
+            self.high = self.high.max(end);
+        } else {
+            self.low = at;
+            self.high = end;
         }
-    }
-
-    /// The same of a chunk at most.
-    fn write_chunk(&mut self, at: usize, count: usize, region: &Region, base: u64, writer: Writer)
-        requires few { count ≤ 256 }
-        requires room { at + count ≤ length self.old }
-        requires within { base + (at + count) ≤ length region.now }
-        ensures len { length self.new ≡ length self.old }
-        ensures bytes { (k : ℕ) → late_in self.new k
-            ≡ (if is_between at (at + count) k then Some (record { writer = writer; value = slice_index region.now (base + k) }) else late_in self.old k) }
-    {
-        let _size = region.size();
-        let mut values = [0; CHUNK];
-        let chunk = &mut values[..count];
-        region.read(base + at as u64, chunk);
-        self.write(at, chunk, writer);
     }
 
     /// Memory catches up with the bytes from byte `low` to before byte `high` that are due.
@@ -125,7 +85,7 @@ impl LateBytes {
         let from = low.max(self.low);
         let to = high.min(self.high);
         if from < to {
-            let some = catch_up(&mut self.bytes, from, to, due);
+            let some = self.bytes.catch_up(from, to, due);
             if from == self.low && to == self.high && !some {
                 self.low = 0;
                 self.high = 0;
@@ -138,7 +98,7 @@ impl LateBytes {
         ensures len { length self.new ≡ length self.old }
         ensures bytes { (k : ℕ) → late_in self.new k ≡ caught_up due (late_in self.old k) }
     {
-        let size = self.bytes.len();
+        let size = self.bytes.size();
         self.catch_up(0, size, due);
     }
 
@@ -147,6 +107,6 @@ impl LateBytes {
         requires { at + length out.old ≤ length self.now }
         ensures { (k : ℕ) → k < length out.old → slice_index out.new k ≡ in_memory (slice_index out.old k) (late_in self.now (at + k)) }
     {
-        look(self.bytes.as_slice(), at, out);
+        self.bytes.look(at, out);
     }
 }

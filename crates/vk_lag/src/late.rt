@@ -1,5 +1,5 @@
-ghost use Rattle.std.specs.Prelude.{◌≡◌, ◌<◌, ◌≤◌, ◌+◌, ◌-◌, ℕ, if◌then◌else◌, length, slice_index, false, Some, None};
-ghost use Rattle.vk_lag.specs.Lags.{late_in, is_between, is_due, caught_up, in_memory};
+ghost use Rattle.std.specs.Prelude.{◌≡◌};
+ghost use Rattle.vk_lag.specs.Inner.{is_due_of, still_late};
 
 /// A command by which a byte became late.
 #[derive(Clone, Copy, PartialEq, Eq, Debug)]
@@ -30,11 +30,10 @@ pub enum Due {
     Before(Writer),
 }
 
-/// Whether memory catches up with a late byte.
-fn is_due(due: Due, late: Late) -> bool
-    ensures { result ≡ is_due due late }
+/// Whether memory catches up with what a command wrote.
+pub(crate) fn is_due(due: Due, writer: Writer) -> bool
+    ensures { result ≡ is_due_of due writer }
 {
-    let writer = late.writer;
     match due {
         Due::All => true,
         Due::Of(queue) => writer.queue == queue,
@@ -42,58 +41,18 @@ fn is_due(due: Due, late: Late) -> bool
     }
 }
 
-/// A byte when memory has caught up with those that are due.
-fn caught_up(due: Due, byte: Option<Late>) -> Option<Late>
-    ensures { result ≡ caught_up due byte }
+/// The writer of a byte that is late still when memory has caught up with those that are due.
+pub(crate) fn still_late(due: Due, writer: Option<Writer>) -> Option<Writer>
+    ensures { result ≡ still_late due writer }
 {
-    match byte {
-        Some(late) => { if is_due(due, late) { None } else { Some(late) } }
-        None => None,
-    }
-}
-
-/// Memory catches up with the bytes from byte `low` to before byte `high` that are due; the answer is
-/// whether one of these may be late still.
-pub(crate) fn catch_up(bytes: &mut Vec<Option<Late>>, low: usize, high: usize, due: Due) -> bool
-    requires order { low ≤ high }
-    requires room { high ≤ length bytes.old.items }
-    ensures len { length bytes.new.items ≡ length bytes.old.items }
-    ensures bytes { (k : ℕ) → late_in bytes.new.items k
-        ≡ (if is_between low high k then caught_up due (late_in bytes.old.items k) else late_in bytes.old.items k) }
-    ensures none { result ≡ false → (k : ℕ) → low ≤ k → k < high → late_in bytes.new.items k ≡ None }
-{
-    let mut some = false;
-    for i in low..high {
-        let byte = caught_up(due, bytes[i]);
-        some = some || byte.is_some();
-        bytes[i] = byte;
-    }
-    some
-}
-
-/// The bytes from byte `at` on become late, of which memory still has these values.
-pub(crate) fn make_late(bytes: &mut Vec<Option<Late>>, at: usize, values: &[u8], writer: Writer)
-    requires { at + length values.now ≤ length bytes.old.items }
-    ensures len { length bytes.new.items ≡ length bytes.old.items }
-    ensures bytes { (k : ℕ) → late_in bytes.new.items k
-        ≡ (if is_between at (at + length values.now) k then Some (record { writer = writer; value = slice_index values.now (k - at) }) else late_in bytes.old.items k) }
-{
-    for i in 0..values.len() {
-        bytes[at + i] = Some(Late {
-            writer,
-            value: values[i],
-        });
-    }
-}
-
-/// Puts what memory still has over the newest values of the bytes from byte `at` on.
-pub(crate) fn look(bytes: &[Option<Late>], at: usize, out: &mut [u8])
-    requires { at + length out.old ≤ length bytes.now }
-    ensures { (k : ℕ) → k < length out.old → slice_index out.new k ≡ in_memory (slice_index out.old k) (late_in bytes.now (at + k)) }
-{
-    for i in 0..out.len() {
-        if let Some(late) = bytes[at + i] {
-            out[i] = late.value;
+    match writer {
+        Some(writer) => {
+            if is_due(due, writer) {
+                None
+            } else {
+                Some(writer)
+            }
         }
+        None => None,
     }
 }

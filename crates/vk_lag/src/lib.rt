@@ -19,8 +19,12 @@
 #![tactic(auto)]
 
 mod bytes;
+mod chunks;
 mod lags;
 mod late;
+mod marks;
+mod parts;
+mod reaching;
 
 pub use lags::Lags;
 pub use late::{Due, Late, Writer};

@@ -1,7 +1,7 @@
 use Rattle.std.proofs.Common.{◌≡◌, ◌≤◌, ◌+◌, ◌-◌, ℕ, length, Some}
 use Rattle.std.specs.Prelude.{if◌then◌else◌, slice_index}
 use Rattle.vk_lag.specs.Lags.{late_in, is_between}
-use Rattle.vk_lag.proofs.bytes.LateBytes.write_from.Given as goal
+use Rattle.vk_lag.proofs.chunks.Chunks.write_from.Given as goal
 
 -- The bytes so far are late.
 abbrev pub invariant-loop-done : goal.invariant-loop-done
