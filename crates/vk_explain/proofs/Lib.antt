@@ -2,3 +2,4 @@ pub mod Joins
 pub mod Colouring
 pub mod Verdicts
 pub mod Refusals
+pub mod Measures

@@ -1,3 +1,4 @@
 -- What only the contracts within the crate cite.
 pub mod Coloured
 pub mod Repaired
+pub mod Measured

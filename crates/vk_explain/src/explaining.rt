@@ -1,12 +1,14 @@
 ghost use Rattle.std.specs.Prelude.{◌≡◌, ◌↔◌, ◌⊎◌, ◌≤◌, ◌<◌, ◌+◌, ℕ, List, take, length, IfOk, IfErr, IfSome, IsTrue, string_bytes, false};
 ghost use Rattle.std.specs.Io.KnownBytes.{Appends, Keeps};
 ghost use Rattle.vk_model.specs.declared.entry.Entry.{Entry};
+ghost use Rattle.vk_model.specs.Trace.Order.{order};
 ghost use Rattle.vk_model.specs.Rules.Table.{first_fault};
 ghost use Rattle.vk_trace.specs.Trace.{IsTrace};
 ghost use Rattle.vk_trace.specs.Watching.{counted};
 ghost use Rattle.vk_trace.specs.Streams.{IsBeforeWriting, IsJudged};
 ghost use Rattle.vk_explain.specs.Presented.{IsAnswer};
 ghost use Rattle.vk_explain.specs.Explained.{Answers, Explains, IsExplained, IsExplanation, judgment_of};
+ghost use Rattle.vk_explain.specs.Inner.Measured.{IsMeasuredAt};
 
 use crate::forms::{Form, Wanted};
 use crate::json::{acceptance_json, refusal_json};
@@ -16,9 +18,11 @@ use crate::presentation::{Presentation, presented};
 use crate::reports::{acceptance_text, refusal_text};
 use std::alloc::{AllocError, Global};
 use std::io::{Read, Write};
+use vk_measures::{Measure, measure_of};
 use vk_model::{At, Entry, Rule};
+use vk_queues::reference_order;
 use vk_trace::{ReadTraceError, RunError, Watched, read_all, read_trace, write_all};
-use vk_validate::{Verdict, validate};
+use vk_validate::refusal_of;
 
 /// The verdict on an input, without its fault.
 #[derive(Clone, Copy, Debug, PartialEq, Eq)]
@@ -141,19 +145,38 @@ fn explained(
     requires { IsTrace input.now trace.now }
     ensures { IfOk result (λ e. Explains form input.now (string_bytes e.text) e.judgment) }
 {
-    let fault = fault_of(alloc, trace)?;
-    let text = text_of(alloc, input, trace, fault, form)?;
-    let judgment = judgment_by(fault);
+    let told = told_of(alloc, trace)?;
+    let text = text_of(alloc, input, trace, told.fault, told.measure, form)?;
+    let judgment = judgment_by(told.fault);
     Ok(Explanation { judgment, text })
 }
 
-/// The first fault of a trace.
-pub fn fault_of(alloc: Global, trace: &[Entry]) -> Result<Option<(At, Rule)>, AllocError>
-    ensures { IfOk result (λ fault. fault ≡ first_fault trace.now) }
+/// The first fault of a trace, and what its rule compares.
+#[derive(Clone, Copy)]
+struct Told {
+    /// The first fault, where there is one.
+    fault: Option<(At, Rule)>,
+    /// What the rule compares at the point that breaks it, where that is reported.
+    measure: Option<Measure>,
+}
+
+/// The first fault of a trace, and what its rule compares there, by the history that the point was
+/// judged by.
+fn told_of(alloc: Global, trace: &[Entry]) -> Result<Told, AllocError>
+    ensures fault { IfOk result (λ told. told.fault ≡ first_fault trace.now) }
+    ensures measured { IfOk result (λ told. IfSome told.fault (λ fault. IsMeasuredAt (order trace.now) fault.0 fault.1 told.measure)) }
 {
-    match validate(alloc, trace)? {
-        Verdict::Accepted(_) => Ok(None),
-        Verdict::Refused(at, rule) => Ok(Some((at, rule))),
+    let points = reference_order(alloc, trace)?;
+    match refusal_of(alloc, points.as_slice())? {
+        Some(refusal) => {
+            let measure = measure_of(&refusal.history, &refusal.point, refusal.rule);
+            let fault = Some((refusal.at, refusal.rule));
+            Ok(Told { fault, measure })
+        }
+        None => Ok(Told {
+            fault: None,
+            measure: None,
+        }),
     }
 }
 
@@ -167,12 +190,13 @@ pub fn judgment_by(fault: Option<(At, Rule)>) -> Judgment
     }
 }
 
-/// The text on a trace, by its first fault.
+/// The text on a trace, by its first fault and what that one's rule compares.
 fn text_of(
     alloc: Global,
     input: &[u8],
     trace: &[Entry],
     fault: Option<(At, Rule)>,
+    measure: Option<Measure>,
     form: Form,
 ) -> Result<String, AllocError>
     requires { fault ≡ first_fault trace.now }
@@ -181,7 +205,7 @@ fn text_of(
     match (fault, form) {
         (None, Form::Text) => acceptance_text(alloc, trace),
         (None, Form::Json) => acceptance_json(alloc, trace),
-        (Some((at, rule)), Form::Text) => refusal_text(alloc, input, trace, at, rule),
-        (Some((at, rule)), Form::Json) => refusal_json(alloc, input, trace, at, rule),
+        (Some((at, rule)), Form::Text) => refusal_text(alloc, input, trace, at, rule, measure),
+        (Some((at, rule)), Form::Json) => refusal_json(alloc, input, trace, at, rule, measure),
     }
 }

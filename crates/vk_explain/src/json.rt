@@ -15,18 +15,20 @@ use vk_fact_words::{
 use vk_facts::{Fact, fact_of_fault};
 use vk_identifiers::is_unknown_here;
 use vk_links::Links;
+use vk_measures::Measure;
 use vk_model::{At, Entry, Rule};
 use vk_notes::{Summary, note_words, notes_of, summary_of};
 use vk_words::{point_words, push_at, sentence};
 
 /// The object on a refused trace: verdict, point, rule, the fact that is reported of it, the
-/// point's place in the input and in words, and what the rule says.
+/// point's place in the input and in words, what the rule says, and what it compares there.
 pub fn refusal_json(
     alloc: Global,
     input: &[u8],
     trace: &[Entry],
     at: At,
     rule: Rule,
+    measure: Option<Measure>,
 ) -> Result<String, AllocError>
     requires { first_fault trace.now ≡ Some (at, rule) }
     ensures { IfOk result (λ text. IsRefusalJson trace.now at rule (string_bytes text)) }
@@ -34,7 +36,7 @@ pub fn refusal_json(
     let fact = fact_of_fault(alloc, trace, at, rule)?;
     let links = links_of_fact(alloc, trace, at, rule, &fact)?;
     let mut text = first_members(alloc, at, rule, &fact, &links)?;
-    let members = later_members(alloc, input, trace, (at, rule), &fact)?;
+    let members = later_members(alloc, input, trace, (at, rule), measure, &fact)?;
     text.push_str(members.as_str())?;
     Ok(text)
 }
@@ -45,6 +47,7 @@ fn later_members(
     input: &[u8],
     trace: &[Entry],
     fault: (At, Rule),
+    measure: Option<Measure>,
     fact: &Option<Fact<'_>>,
 ) -> Result<String, AllocError>
     requires { first_fault trace.now ≡ Some fault }
@@ -54,7 +57,7 @@ fn later_members(
     let either_way = either_way_member(alloc, fact)?;
     members.push_str(either_way.as_str())?;
     let (at, rule) = fault;
-    let others = point_members(alloc, input, trace, at, rule)?;
+    let others = point_members(alloc, input, trace, at, rule, measure)?;
     members.push_str(others.as_str())?;
     Ok(members)
 }
@@ -149,14 +152,15 @@ fn point_members(
     trace: &[Entry],
     at: At,
     rule: Rule,
+    measure: Option<Measure>,
 ) -> Result<String, AllocError>
     requires { first_fault trace.now ≡ Some (at, rule) }
 {
     let mut members = String::new(alloc);
     push_place(&mut members, input, at)?;
     push_identifier_members(alloc, &mut members, trace, at, rule)?;
-    let measure = measure_member(alloc, trace, at, rule)?;
-    members.push_str(measure.as_str())?;
+    let compared = measure_member(alloc, measure)?;
+    members.push_str(compared.as_str())?;
     let state = state_member(alloc, trace, at, rule)?;
     members.push_str(state.as_str())?;
     let cause = cause_member(alloc, trace, at, rule)?;

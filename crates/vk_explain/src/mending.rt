@@ -4,7 +4,7 @@ ghost use Rattle.vk_trace.specs.Trace.{IsTrace};
 ghost use Rattle.vk_explain.specs.Explained.{Answers, IsJudgedTrace};
 ghost use Rattle.vk_explain.specs.declared.forms.Wanted.TheVariants.{Repaired};
 
-use crate::explaining::{Explanation, Judgment, fault_of, judgment_by};
+use crate::explaining::{Explanation, Judgment, judgment_by};
 use crate::forms::Form;
 use crate::mistakes::no_trace;
 use crate::repairs::{RepairSearch, sought};
@@ -13,6 +13,7 @@ use std::marker::Model;
 use vk_model::{At, Entry, Rule};
 use vk_repairs::Repair;
 use vk_trace::{ReadTraceError, read_trace};
+use vk_validate::{Verdict, validate};
 use vk_writer::trace_json;
 
 /// So often a repair is sought, each of the trace that the one before it made.
@@ -42,6 +43,16 @@ fn mended(alloc: Global, input: &[u8], trace: Vec<Entry>) -> Result<Explanation,
     match judged(alloc, text.as_bytes())? {
         Some(judgment) => Ok(Explanation { judgment, text }),
         None => Ok(given),
+    }
+}
+
+/// The first fault of a trace.
+fn fault_of(alloc: Global, trace: &[Entry]) -> Result<Option<(At, Rule)>, AllocError>
+    ensures { IfOk result (λ fault. fault ≡ first_fault trace.now) }
+{
+    match validate(alloc, trace)? {
+        Verdict::Accepted(_) => Ok(None),
+        Verdict::Refused(at, rule) => Ok(Some((at, rule))),
     }
 }
 

@@ -15,19 +15,21 @@ use vk_fact_words::{
 };
 use vk_facts::{Fact, fact_of_fault};
 use vk_links::Links;
+use vk_measures::Measure;
 use vk_model::{At, Entry, Rule};
 use vk_notes::{MOST_NOTES, Summary, note_words, notes_of, summary_of};
 use vk_trace::Outcome;
 use vk_words::{point_words, push_count, sentence};
 
 /// The lines on a refused trace: the verdict, the point in words, what the rule says, the fact that is
-/// reported of it, and a repair.
+/// reported of it, what the rule compares there, and a repair.
 pub fn refusal_text(
     alloc: Global,
     input: &[u8],
     trace: &[Entry],
     at: At,
     rule: Rule,
+    measure: Option<Measure>,
 ) -> Result<String, AllocError>
     requires { first_fault trace.now ≡ Some (at, rule) }
     ensures { IfOk result (λ text. IsRefusalText trace.now at rule (string_bytes text)) }
@@ -41,7 +43,7 @@ pub fn refusal_text(
     text.push_str(ruled.as_str())?;
     let points = point_lines(alloc, input, trace, &fact)?;
     text.push_str(points.as_str())?;
-    let more = more_lines(alloc, trace, at, rule)?;
+    let more = more_lines(alloc, trace, at, rule, measure)?;
     text.push_str(more.as_str())?;
     Ok(text)
 }
@@ -76,12 +78,18 @@ fn reported_lines(
 }
 
 /// The lines on what Vulkan says, on what is compared, on a cause and on a repair, and the notes.
-fn more_lines(alloc: Global, trace: &[Entry], at: At, rule: Rule) -> Result<String, AllocError>
+fn more_lines(
+    alloc: Global,
+    trace: &[Entry],
+    at: At,
+    rule: Rule,
+    measure: Option<Measure>,
+) -> Result<String, AllocError>
     requires { first_fault trace.now ≡ Some (at, rule) }
 {
     let mut lines = identifier_lines(alloc, trace, at, rule)?;
-    let measure = measure_line(alloc, trace, at, rule)?;
-    lines.push_str(measure.as_str())?;
+    let compared = measure_line(alloc, measure)?;
+    lines.push_str(compared.as_str())?;
     let state = state_line(alloc, trace, at, rule)?;
     lines.push_str(state.as_str())?;
     let causes = cause_lines(alloc, trace, at, rule)?;

@@ -14,6 +14,7 @@ ghost use Rattle.vk_model.specs.Trace.PointViews.{point_of, action_of};
 ghost use Rattle.vk_order.specs.NodeViews.{act_of};
 ghost use Rattle.vk_order.specs.Frontiers.{IsNewNode};
 ghost use Rattle.vk_order.specs.Wide.{IsApartFrom};
+ghost use Rattle.vk_queues.specs.PointViews.{past_of};
 ghost use Rattle.vk_history.specs.PointViews.{past};
 ghost use Rattle.vk_history.specs.Judged.{IsJudged};
 ghost use Rattle.vk_history.specs.Ended.{first_end};
@@ -87,6 +88,14 @@ impl<'a> History<'a> {
         ensures within { self.now.count ≤ length self.now.points }
     {
         self.count
+    }
+
+    /// The points that have happened.
+    #[tactic(auto, unfolding(crate::specs::PointViews::past))]
+    pub fn happened(&self) -> &'a [Point<'a>]
+        ensures { past_of result.now ≡ past self.now }
+    {
+        &self.points[..self.count]
     }
 
     /// What has happened was judged.

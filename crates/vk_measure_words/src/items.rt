@@ -1,6 +1,6 @@
 use std::alloc::AllocError;
-use vk_measures::Item;
 use vk_model::{Kind, Length};
+use vk_rules::Item;
 use vk_words::push_count;
 
 /// Adds which item of a point is meant, and a colon; of the only one nothing.

@@ -1,9 +1,10 @@
 use crate::items::{push_bytes, push_item};
 use std::alloc::AllocError;
 use vk_measures::{
-    AlignUnit, AlignedNumber, Amount, Axis, Misaligned, OtherTexels, Outside, PastBytes,
-    PointNumber, Quantity, RangeMeasure, RowSide, SizeMeasure,
+    AlignUnit, AlignedNumber, Amount, Axis, Misaligned, OtherTexels, Outside, PointNumber,
+    Quantity, SizeMeasure,
 };
+use vk_rules::{PastBytes, RangeMeasure, RowSide};
 use vk_words::push_count;
 
 /// Adds where bytes end and the size of their buffer, or a row and its extent.

@@ -5,7 +5,7 @@ use Rattle.vk_model.specs.declared.resource.ImageInfo.{ImageInfo}
 use Rattle.vk_model.specs.Trace.Point.{Past}
 use Rattle.vk_model.specs.Trace.Objects.{image}
 use Rattle.vk_model.specs.World.Areas.{Area}
-use Rattle.vk_measures.specs.declared.items.Item.{Item}
+use Rattle.vk_rules.specs.declared.items.Item.{Item}
 use Rattle.vk_measures.specs.declared.spans.Outside.{Outside}
 use Rattle.vk_measures.specs.Subresources.{IsOutsideOf, span_in}
 use Rattle.vk_measures.specs.Inner.Subresources.{IsSpanIn}

@@ -17,8 +17,8 @@ use Rattle.vk_model.specs.Basics.{holds}
 use Rattle.vk_model.specs.Trace.Image.{most_levels}
 use Rattle.vk_model.specs.Trace.Point.{Past, Action, Host, Run}
 use Rattle.vk_model.specs.World.ByteWrites.{buffer_size}
-use Rattle.vk_measures.specs.declared.items.Item.{Item}
-use Rattle.vk_measures.specs.declared.items.Item.TheVariants as item
+use Rattle.vk_rules.specs.declared.items.Item.{Item}
+use Rattle.vk_rules.specs.declared.items.Item.TheVariants as item
 use Rattle.vk_measures.specs.declared.counts.Quantity.{Quantity}
 use Rattle.vk_measures.specs.declared.counts.Quantity.TheVariants as quantity
 use Rattle.vk_measures.specs.declared.counts.Amount.{Amount}

@@ -4,9 +4,10 @@ use Rattle.vk_model.specs.declared.rule.Rule.{Rule}
 use Rattle.vk_model.specs.declared.rule.Rule.TheVariants as rule
 use Rattle.vk_model.specs.Trace.Point.{Past, Point}
 use Rattle.vk_model.specs.Rules.Table.{breaks}
+use Rattle.vk_rules.specs.Ranges.{IsRange}
 use Rattle.vk_measures.specs.declared.measures.Measure.{Measure}
 use Rattle.vk_measures.specs.declared.measures.Measure.TheVariants as measure
-use Rattle.vk_measures.specs.Ranges.{IsRange, IsAlign, IsFormat}
+use Rattle.vk_measures.specs.Ranges.{IsAlign, IsFormat}
 use Rattle.vk_measures.specs.Synchronization.{IsStage}
 use Rattle.vk_measures.specs.Sizes.{OnHost, IsUsage, IsBadType, IsBadSize, IsOverHalf}
 use Rattle.vk_measures.specs.Subresources.{IsSubresource}

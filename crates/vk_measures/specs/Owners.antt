@@ -10,7 +10,7 @@ use Rattle.vk_model.specs.World.ByteWrites.{buffer_size}
 use Rattle.vk_model.specs.Rules.Owners.{families_differ, is_all}
 use Rattle.vk_measures.specs.declared.transfers.PartTransfer.{PartTransfer}
 use Rattle.vk_measures.specs.declared.transfers.PartTransfer.TheVariants as transfer
-use Rattle.vk_measures.specs.Ranges.{Named, named}
+use Rattle.vk_rules.specs.Ranges.{Named, named}
 
 -- The bytes whose ownership an element transfers (Vulkan, "Queue Family Ownership Transfer").
 abbrev pub transferred_bytes : Element → Option Named

@@ -13,8 +13,8 @@ use Rattle.vk_model.specs.Trace.Point.{Past, Action, Run}
 use Rattle.vk_model.specs.Trace.Objects.{image}
 use Rattle.vk_model.specs.World.Areas.{Area, Texels, Subresources, region_box, source_box, destination_box}
 use Rattle.vk_model.specs.Rules.Ranges.{is_beyond}
-use Rattle.vk_measures.specs.declared.items.Item.{Item}
-use Rattle.vk_measures.specs.declared.items.Item.TheVariants as item
+use Rattle.vk_rules.specs.declared.items.Item.{Item}
+use Rattle.vk_rules.specs.declared.items.Item.TheVariants as item
 use Rattle.vk_measures.specs.declared.spans.Axis.{Axis}
 use Rattle.vk_measures.specs.declared.spans.Axis.TheVariants as axis
 use Rattle.vk_measures.specs.declared.spans.Outside.{Outside}

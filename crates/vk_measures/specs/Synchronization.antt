@@ -8,8 +8,8 @@ use Rattle.vk_model.specs.Sync.Edge.{transfer_stage, host_stage, all_commands}
 use Rattle.vk_model.specs.Trace.Point.{Action, Wait, Signal, Run}
 use Rattle.vk_model.specs.World.Ownership.{dependency_of}
 use Rattle.vk_model.specs.Rules.Synchronization.{known_stages, known_accesses}
-use Rattle.vk_measures.specs.declared.items.Item.{Item}
-use Rattle.vk_measures.specs.declared.items.Item.TheVariants as item
+use Rattle.vk_rules.specs.declared.items.Item.{Item}
+use Rattle.vk_rules.specs.declared.items.Item.TheVariants as item
 use Rattle.vk_measures.specs.declared.stages.Side.{Side}
 use Rattle.vk_measures.specs.declared.stages.Side.TheVariants as side
 use Rattle.vk_measures.specs.declared.stages.MaskFault.{MaskFault}

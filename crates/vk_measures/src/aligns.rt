@@ -10,10 +10,10 @@ ghost use Rattle.vk_queues.specs.PointViews.{past_of};
 ghost use Rattle.vk_measures.specs.Ranges.{IsAlign, IsMisaligned};
 ghost use Rattle.vk_measures.specs.Inner.Ranges.{IsOff, IsOffLength, IsOffTexel, AreOffTexel};
 
-use crate::items::Item;
 use vk_image_tiles::texel_size;
 use vk_model::{Action, BufferImageCopy, Cmd, Length, Point};
 use vk_past::image;
+use vk_rules::Item;
 
 /// The bytes of a word.
 const WORD: u64 = 4;

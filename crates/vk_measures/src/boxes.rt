@@ -5,11 +5,11 @@ ghost use Rattle.vk_model.specs.Rules.Ranges as rules;
 ghost use Rattle.vk_overlaps.specs.Boxes.{box_of};
 ghost use Rattle.vk_measures.specs.Inner.Subresources.{IsSpanOf};
 
-use crate::items::Item;
 use crate::spans::{Axis, Outside, refused};
 use vk_image_tiles::{level_height, level_width};
 use vk_model::ImageInfo;
 use vk_overlaps::TexelBox;
+use vk_rules::Item;
 
 /// The numbers of a box that aren't of an image.
 pub fn box_outside(info: &ImageInfo, image: u32, item: Item, texels: TexelBox) -> Option<Outside>

@@ -9,9 +9,9 @@ ghost use Rattle.vk_queues.specs.PointViews.{past_of};
 ghost use Rattle.vk_measures.specs.Counts.{IsSize, IsHostSize, IsPoolSize, IsSizeOf, is_out, image_limits, fill_limits, copy_limits, elements_limits, command_limits};
 ghost use Rattle.vk_measures.specs.Inner.Counts.{IsLength, IsElementSize};
 
-use crate::items::Item;
 use vk_model::{Action, BufferCopy, Cmd, Element, Entry, ImageInfo, Kind, Length, Point, PoolInfo};
 use vk_past::size;
+use vk_rules::Item;
 
 /// The greatest size of a block of a pool in bytes.
 const GREATEST_BLOCK: u64 = 16_777_216;

@@ -1,8 +1,7 @@
-ghost use Rattle.std.specs.Prelude.{◌≡◌, ◌∷◌};
-ghost use Rattle.vk_model.specs.Trace.Point as spec;
 ghost use Rattle.vk_model.specs.declared.rule.Rule.TheVariants as rule;
 ghost use Rattle.vk_model.specs.Trace.PointViews.{point_of};
 ghost use Rattle.vk_queues.specs.PointViews.{past_of};
+ghost use Rattle.vk_history.specs.PointViews.{past};
 ghost use Rattle.vk_measures.specs.Measures.{IsMeasured};
 
 use crate::aligns::{Misaligned, align_of};
@@ -16,14 +15,14 @@ use crate::memories::{
 };
 use crate::pools::{PoolUse, pool_kind_of};
 use crate::queues::{QueueNumber, QueueUse, queue_kind_of, queue_of};
-use crate::ranges::{RangeMeasure, range_of};
 use crate::spans::Outside;
 use crate::stages::{BadMasks, stage_of};
 use crate::subresources::subresource_of;
 use crate::transfers::{PartTransfer, owner_whole_of};
 use crate::usages::{UsageMeasure, usage_of};
+use vk_history::History;
 use vk_model::{Point, Rule};
-use vk_past::split_of;
+use vk_rules::{RangeMeasure, range_of};
 
 /// What a rule compares at a point that breaks it.
 #[derive(Clone, Copy)]
@@ -66,21 +65,15 @@ pub enum Measure {
     Limit(PointNumber),
 }
 
-/// What a rule compares at the last of some points, where that point breaks it; nothing of a rule that
-/// has no variant of `Measure`. The points are those of a trace in reference order, from the first one
-/// on. For each id that the point names it walks over them once.
-pub fn measure_of(points: &[Point<'_>], rule: Rule) -> Option<Measure>
-    ensures { (past : spec.Past) (p : spec.Point) → past_of points.now ≡ p ∷ past → IsMeasured rule past p result }
+/// What a rule compares at a point that comes next, where the point breaks it; nothing of a rule that has
+/// no variant of `Measure`. The history is that of the points before it. For each id that the point
+/// names it walks over them once, for RANGE over none.
+pub fn measure_of(history: &History<'_>, point: &Point<'_>, rule: Rule) -> Option<Measure>
+    ensures { IsMeasured rule (past history.now) (point_of point.now) result }
 {
-    let split = split_of(points)?;
-    of_rule(split.older, &split.point, rule)
-}
-
-fn of_rule(older: &[Point<'_>], point: &Point<'_>, rule: Rule) -> Option<Measure>
-    ensures { IsMeasured rule (past_of older.now) (point_of point.now) result }
-{
+    let older = history.happened();
     match rule {
-        Rule::Range => of_range(older, point),
+        Rule::Range => of_range(history, point),
         Rule::Stage => of_stage(older, point),
         Rule::Usage => of_usage(older, point),
         Rule::Subresource => of_subresource(older, point),
@@ -103,10 +96,10 @@ fn of_rule(older: &[Point<'_>], point: &Point<'_>, rule: Rule) -> Option<Measure
 }
 
 #[tactic(auto, unfolding(vk_model::specs::Rules::Table::breaks))]
-fn of_range(older: &[Point<'_>], point: &Point<'_>) -> Option<Measure>
-    ensures { IsMeasured rule.Range (past_of older.now) (point_of point.now) result }
+fn of_range(history: &History<'_>, point: &Point<'_>) -> Option<Measure>
+    ensures { IsMeasured rule.Range (past history.now) (point_of point.now) result }
 {
-    let measure = range_of(older, point)?;
+    let measure = range_of(history, point)?;
     Some(Measure::Range(measure))
 }
 

@@ -3,8 +3,8 @@ ghost use Rattle.vk_model.specs.World.Areas.{Subresources};
 ghost use Rattle.vk_model.specs.Rules.Ranges as rules;
 ghost use Rattle.vk_measures.specs.Inner.Subresources.{IsSpanOf};
 
-use crate::items::Item;
 use vk_model::{ImageInfo, SubresourceRange};
+use vk_rules::Item;
 
 /// What numbers of an image count.
 #[derive(Clone, Copy)]

@@ -11,9 +11,9 @@ ghost use Rattle.vk_model.specs.Trace.PointViews.{action_of};
 ghost use Rattle.vk_measures.specs.Synchronization.{IsStage, IsUnfit, is_barring};
 ghost use Rattle.vk_measures.specs.Inner.Synchronization.{AreMasks, AreMasksAt, AreEventMasks, AreEventMasksAt};
 
-use crate::items::Item;
 use bitflags::Flags;
 use vk_model::{Accesses, Action, Cmd, Dependency, Element, Point, Stages};
+use vk_rules::Item;
 
 /// All stages that there are.
 const KNOWN_STAGES: Stages = Stages(Stages::TRANSFER.0 | Stages::HOST.0 | Stages::ALL_COMMANDS.0);

@@ -11,13 +11,13 @@ ghost use Rattle.vk_measures.specs.Subresources.{IsSubresource, IsOutside, IsOut
 ghost use Rattle.vk_measures.specs.Inner.Subresources.{IsSpanIn, IsElementOutside};
 
 use crate::boxes::box_outside;
-use crate::items::Item;
 use crate::spans::{Outside, range_outside};
 use vk_model::{
     Action, BufferImageCopy, Cmd, Element, ImageCopy, ImageInfo, Point, SubresourceRange,
 };
 use vk_overlaps::{destination_box, region_box, source_box};
 use vk_past::image;
+use vk_rules::Item;
 
 /// SUBRESOURCE: which numbers of a point aren't of their image.
 pub fn subresource_of(older: &[Point<'_>], point: &Point<'_>) -> Option<Outside>

@@ -1,5 +1,3 @@
-pub mod Busy
-pub mod Named
 pub mod Among
 pub mod Conflicting
 pub mod OwnBytes
@@ -9,9 +7,6 @@ pub mod CalmConflicts
 pub mod Conflicts
 pub mod Copying
 pub mod Clearing
-pub mod Pairs
-pub mod Halves
-pub mod Elements
 pub mod Transitioning
 pub mod Rules
 pub mod Faults

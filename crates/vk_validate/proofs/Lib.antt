@@ -1,5 +1,2 @@
 pub mod Points
-pub mod Making
-pub mod Transitions
 pub mod Judging
-pub mod Writing

@@ -1,2 +1,3 @@
 pub mod Inner
+pub mod Refusals
 pub mod Verdicts

@@ -5,14 +5,9 @@
 //! history of what has happened, which answers what the rules ask.
 #![tactic(auto)]
 
-mod halves;
-mod images;
-mod overlapping;
-mod regions;
+mod refusals;
 mod rules;
-mod scopes;
-mod twice;
 mod verdicts;
-mod written;
 
+pub use refusals::{Refusal, refusal_of};
 pub use verdicts::{Accepted, Verdict, validate};

@@ -10,18 +10,8 @@ ghost use Rattle.vk_history.specs.Judged.{early_rules, late_rules, first_among};
 ghost use Rattle.vk_validate.specs.Inner.Early.{breaks_early, AreSearched};
 ghost use Rattle.vk_touches.specs.Conflicts.{AreConflicts};
 
-mod binding;
 mod commands;
 mod hazards;
-mod ids;
-mod layouts;
-mod mapping;
-mod owners;
-mod passes;
-mod ranges;
-mod sizes;
-mod synchronization;
-mod traces;
 
 use std::alloc::AllocError;
 use vk_history::History;
@@ -151,10 +141,10 @@ fn search(history: &History<'_>, point: &Point<'_>) -> Result<Searched, AllocErr
     requires ordered { IsOrdered (point_of point.now ∷ past history.now) }
     ensures { IfOk result (λ found. AreSearched found (past history.now) (point_of point.now)) }
 {
-    let is_overlapping = ranges::breaks_overlap(history, point)?;
-    let is_unordered = synchronization::breaks_signal_order(history, point)?;
-    let is_unpaired = owners::breaks_owner_pair(history, point)?;
-    let is_pass_busy = passes::breaks_pass_busy(history, point)?;
+    let is_overlapping = vk_rules::breaks_overlap(history, point)?;
+    let is_unordered = vk_rules::breaks_signal_order(history, point)?;
+    let is_unpaired = vk_rules::breaks_owner_pair(history, point)?;
+    let is_pass_busy = vk_rules::breaks_pass_busy(history, point)?;
     Ok(Searched {
         is_overlapping,
         is_unordered,
@@ -243,41 +233,41 @@ fn breaks_early(rule: Rule, history: &History<'_>, point: &Point<'_>, searched: 
 {
     history.is_judged();
     match rule {
-        Rule::NewId => ids::breaks_new_id(history, point),
-        Rule::LiveId => ids::breaks_live_id(history, point),
-        Rule::Queue => ids::breaks_queue(point),
-        Rule::QueueKind => ids::breaks_queue_kind(point),
-        Rule::Size => sizes::breaks_size(history, point),
-        Rule::Usage => sizes::breaks_usage(history, point),
-        Rule::MemoryType => sizes::breaks_memory_type(history, point),
-        Rule::MemorySize => sizes::breaks_memory_size(point),
-        Rule::PoolSize => sizes::breaks_pool_size(history, point),
-        Rule::BindRange => binding::breaks_bind_range(history, point),
-        Rule::BindAlign => binding::breaks_bind_align(history, point),
-        Rule::Aliased => binding::breaks_aliased(history, point),
-        Rule::Range => ranges::breaks_range(history, point),
-        Rule::Align => ranges::breaks_align(history, point),
+        Rule::NewId => vk_rules::breaks_new_id(history, point),
+        Rule::LiveId => vk_rules::breaks_live_id(history, point),
+        Rule::Queue => vk_rules::breaks_queue(point),
+        Rule::QueueKind => vk_rules::breaks_queue_kind(point),
+        Rule::Size => vk_rules::breaks_size(history, point),
+        Rule::Usage => vk_rules::breaks_usage(history, point),
+        Rule::MemoryType => vk_rules::breaks_memory_type(history, point),
+        Rule::MemorySize => vk_rules::breaks_memory_size(point),
+        Rule::PoolSize => vk_rules::breaks_pool_size(history, point),
+        Rule::BindRange => vk_rules::breaks_bind_range(history, point),
+        Rule::BindAlign => vk_rules::breaks_bind_align(history, point),
+        Rule::Aliased => vk_rules::breaks_aliased(history, point),
+        Rule::Range => vk_rules::breaks_range(history, point),
+        Rule::Align => vk_rules::breaks_align(history, point),
         Rule::Overlap => searched.is_overlapping,
-        Rule::Format => ranges::breaks_format(history, point),
-        Rule::Subresource => ranges::breaks_subresource(history, point),
-        Rule::Stage => synchronization::breaks_stage(point),
-        Rule::Layout => layouts::breaks_layout(history, point),
-        Rule::OldLayout => layouts::breaks_old_layout(history, point),
-        Rule::OwnerWhole => owners::breaks_owner_whole(history, point),
+        Rule::Format => vk_rules::breaks_format(history, point),
+        Rule::Subresource => vk_rules::breaks_subresource(history, point),
+        Rule::Stage => vk_rules::breaks_stage(point),
+        Rule::Layout => vk_rules::breaks_layout(history, point),
+        Rule::OldLayout => vk_rules::breaks_old_layout(history, point),
+        Rule::OwnerWhole => vk_rules::breaks_owner_whole(history, point),
         Rule::OwnerPair => searched.is_unpaired,
-        Rule::EventState => synchronization::breaks_event_state(history, point),
-        Rule::EventDependency => synchronization::breaks_event_dependency(history, point),
-        Rule::SignalValue => synchronization::breaks_signal_value(history, point),
+        Rule::EventState => vk_rules::breaks_event_state(history, point),
+        Rule::EventDependency => vk_rules::breaks_event_dependency(history, point),
+        Rule::SignalValue => vk_rules::breaks_signal_value(history, point),
         Rule::SignalOrder => searched.is_unordered,
         // A batch is started only once its waits are met.
         Rule::WaitBeforeSignal => false,
-        Rule::WaitNever => synchronization::breaks_wait_never(history, point),
-        Rule::MapState => mapping::breaks_map_state(history, point),
-        Rule::HostVisible => mapping::breaks_host_visible(history, point),
-        Rule::PoolKind => passes::breaks_pool_kind(history, point),
-        Rule::PassState => passes::breaks_pass_state(history, point),
+        Rule::WaitNever => vk_rules::breaks_wait_never(history, point),
+        Rule::MapState => vk_rules::breaks_map_state(history, point),
+        Rule::HostVisible => vk_rules::breaks_host_visible(history, point),
+        Rule::PoolKind => vk_rules::breaks_pool_kind(history, point),
+        Rule::PassState => vk_rules::breaks_pass_state(history, point),
         Rule::PassBusy => searched.is_pass_busy,
-        Rule::PassWrite => passes::breaks_pass_write(history, point),
+        Rule::PassWrite => vk_rules::breaks_pass_write(history, point),
         _ => false,
     }
 }
@@ -292,7 +282,7 @@ fn first_late(
     requires used { is_used ≡ breaks_in_use (past history.now) (point_of point.now) }
     ensures { result ≡ first_among late_rules (past history.now) (point_of point.now) }
 {
-    let is_over = traces::breaks_limit(history);
+    let is_over = vk_rules::breaks_limit(history);
     if found.war {
         Some(Rule::HazardWar)
     } else if found.raw {

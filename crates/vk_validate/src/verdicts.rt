@@ -1,16 +1,11 @@
 ghost use Rattle.std.specs.Prelude.{◌≡◌, IfOk, None};
-ghost use Rattle.vk_model.specs.Trace.Point as spec;
-ghost use Rattle.vk_model.specs.Trace.Structure.{IsOrdered};
-ghost use Rattle.vk_model.specs.Rules.Table.{fault, first_fault};
+ghost use Rattle.vk_model.specs.Rules.Table.{first_fault};
 ghost use Rattle.vk_validate.specs.Verdicts.{reported, IsAbout};
-ghost use Rattle.vk_model.specs.Trace.PointViews.{point_of};
-ghost use Rattle.vk_queues.specs.PointViews.{past_of};
 
-use crate::rules::first_rule;
+use crate::refusals::refusal_of;
 use std::alloc::{AllocError, Global};
 use std::marker::Model;
-use vk_history::History;
-use vk_model::{Action, At, Entry, Point, Rule};
+use vk_model::{At, Entry, Rule};
 use vk_queues::reference_order;
 
 /// The entries of a trace that breaks no rule. Only `validate` makes one. Contracts see the
@@ -60,37 +55,8 @@ pub fn validate<'a>(alloc: Global, entries: &'a [Entry]) -> Result<Verdict<'a>, 
     ensures same { IfOk result (IsAbout entries.now) }
 {
     let points = reference_order(alloc, entries)?;
-    match first_fault(alloc, points.as_slice())? {
-        Some((at, rule)) => Ok(Verdict::Refused(at, rule)),
+    match refusal_of(alloc, points.as_slice())? {
+        Some(refusal) => Ok(Verdict::Refused(refusal.at, refusal.rule)),
         None => Ok(Verdict::Accepted(Accepted { entries })),
-    }
-}
-
-/// The first of the points that breaks a rule, with its first rule.
-fn first_fault<'a>(alloc: Global, points: &'a [Point<'a>]) -> Result<Option<(At, Rule)>, AllocError>
-    requires { IsOrdered (past_of points.now) }
-    ensures { IfOk result (λ found. found ≡ fault (past_of points.now)) }
-{
-    let mut history = History::new(alloc, points);
-    for point in points {
-        history.is_judged();
-        if let Some(rule) = first_rule(&history, point)? {
-            return Ok(Some((at_of(point), rule)));
-        }
-        history.advance(point)?;
-    }
-    history.is_judged();
-    Ok(None)
-}
-
-/// How a point is reported.
-fn at_of(point: &Point<'_>) -> At
-    ensures { result ≡ spec.at_of (point_of point.now) }
-{
-    match point.action {
-        Action::Host(_) => At::Entry(point.entry),
-        Action::Wait(_) => At::Wait(point.entry, point.batch, point.place),
-        Action::Run(_) => At::Command(point.entry, point.batch, point.place),
-        Action::Signal(_) => At::Signal(point.entry, point.batch, point.place),
     }
 }

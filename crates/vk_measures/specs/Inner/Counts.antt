@@ -2,7 +2,7 @@
 use Rattle.std.specs.Prelude.{◌≡◌, true, Some}
 use Rattle.vk_model.specs.declared.command.Element.{Element}
 use Rattle.vk_model.specs.declared.command.Length.{Length}
-use Rattle.vk_measures.specs.declared.items.Item.{Item}
+use Rattle.vk_rules.specs.declared.items.Item.{Item}
 use Rattle.vk_measures.specs.declared.counts.Quantity.TheVariants as quantity
 use Rattle.vk_measures.specs.declared.counts.SizeMeasure.{SizeMeasure}
 use Rattle.vk_measures.specs.declared.counts.SizeMeasure.TheVariants as measure

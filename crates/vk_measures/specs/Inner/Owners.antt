@@ -8,7 +8,7 @@ use Rattle.vk_model.specs.Rules.Owners.{is_all}
 use Rattle.vk_measures.specs.declared.transfers.PartTransfer.{PartTransfer}
 use Rattle.vk_measures.specs.declared.transfers.PartTransfer.TheVariants as transfer
 use Rattle.vk_measures.specs.Owners.{transferred_bytes, transferred_range, is_whole}
-use Rattle.vk_measures.specs.Ranges.{named}
+use Rattle.vk_rules.specs.Ranges.{named}
 
 -- Element k transfers this, and it isn't all of the resource.
 abbrev pub IsPartAt : Past → ℕ → Element → PartTransfer → Type 0

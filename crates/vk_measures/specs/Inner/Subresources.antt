@@ -6,8 +6,8 @@ use Rattle.vk_model.specs.Trace.Point.{Past}
 use Rattle.vk_model.specs.Trace.Objects.{image}
 use Rattle.vk_model.specs.World.Areas.{Area}
 use Rattle.vk_model.specs.Rules.Ranges.{is_beyond}
-use Rattle.vk_measures.specs.declared.items.Item.{Item}
-use Rattle.vk_measures.specs.declared.items.Item.TheVariants as item
+use Rattle.vk_rules.specs.declared.items.Item.{Item}
+use Rattle.vk_rules.specs.declared.items.Item.TheVariants as item
 use Rattle.vk_measures.specs.declared.spans.Outside.{Outside}
 use Rattle.vk_measures.specs.Subresources.{area_image, element_area, span_in, span}
 

@@ -1,8 +1,8 @@
 -- Parts of what is reported of masks, as single functions find them.
 use Rattle.std.specs.Prelude.{◌≡◌, ℕ, List, Option, Some, None, option_and_then, true, slice_get}
 use Rattle.vk_model.specs.declared.command.Dependency.{Dependency}
-use Rattle.vk_measures.specs.declared.items.Item.{Item}
-use Rattle.vk_measures.specs.declared.items.Item.TheVariants as item
+use Rattle.vk_rules.specs.declared.items.Item.{Item}
+use Rattle.vk_rules.specs.declared.items.Item.TheVariants as item
 use Rattle.vk_measures.specs.declared.stages.Side.{Side}
 use Rattle.vk_measures.specs.declared.stages.Side.TheVariants as side
 use Rattle.vk_measures.specs.declared.stages.BadMasks.{BadMasks}

@@ -11,12 +11,14 @@ use Rattle.vk_model.specs.Trace.Point as spec
 use Rattle.vk_model.specs.Trace.Point.{Past, at_of}
 use Rattle.vk_model.specs.Trace.Order.{order}
 use Rattle.vk_model.specs.Trace.Structure.{IsOrdered}
+use Rattle.vk_model.specs.Rules.Fault.{Comes}
 use Rattle.vk_model.specs.Rules.Table.{first_rule, fault, first_fault}
 use Rattle.vk_model.proofs.Rules.Fault.{no_fault-cons}
 use Rattle.vk_model.proofs.Trace.Structure.{order_ordered}
 use Rattle.vk_model.specs.declared.point.Point.{Point}
 use Rattle.vk_model.specs.Trace.PointViews.{point_of}
 use Rattle.vk_queues.specs.PointViews.{past_of, add}
+use Rattle.vk_queues.proofs.NewPoints.{comes_at}
 use Rattle.vk_history.specs.PointViews.{past, Walk}
 use Rattle.vk_history.specs.Judged.{IsJudged}
 use Rattle.vk_history.proofs.Kept.PastLemmas.{past-next}
@@ -61,6 +63,11 @@ module _ (h : Walk) (points : List Point) (k : ℕ) (here : h ≡ record { point
   done j le = sym (ap fault (sym (ap past here ∙ ap past_of (take_all k points le))) ∙ j.faultless)
 
   module _ (x : Point) (at : slice_get points k ≡ Some x) where
+    -- the point is one of them, with what has happened before it
+    pub comes_here : Comes (past_of points) (past h) (point_of x)
+    unfolding past
+    comes_here = subst (λ (before : Past). Comes (past_of points) before (point_of x)) (sym (ap past here)) (comes_at [] points k x at)
+
     cut : past_of points ≡ fold add (point_of x ∷ past h) (drop (k + 1) points)
     unfolding past
     cut =

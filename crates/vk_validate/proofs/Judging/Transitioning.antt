@@ -52,7 +52,7 @@ use Rattle.vk_history.proofs.Making.Numbers.{byte_of_image, size_of_image}
 use Rattle.vk_validate.specs.declared.rules.hazards.barriers.Moved.{Moved}
 use Rattle.vk_validate.specs.Inner.Transitions.{AreCovered, AreMoved, FindsEarly, FindsMissed, FoundInMoved, IsTransitionAccess, node_alone}
 use Rattle.vk_validate.proofs.Judging.Early.{early_overlap, early_within}
-use Rattle.vk_validate.proofs.Judging.Elements.{apart}
+use Rattle.vk_rules.proofs.Judging.Elements.{apart}
 use Rattle.vk_validate.proofs.Points.Queues.{queue_low}
 
 -- what is found among the items of a list is whether a test holds of some

@@ -8,7 +8,7 @@ ghost use Rattle.vk_model.specs.Trace.PointViews.{point_of};
 ghost use Rattle.vk_history.specs.PointViews.{past};
 ghost use Rattle.vk_validate.specs.Inner.Early.{breaks_early, on_buffers, on_barriers, AreSearched};
 
-use crate::rules::{Searched, ids, layouts, owners, passes, ranges, sizes, synchronization};
+use crate::rules::Searched;
 use vk_history::History;
 use vk_model::{Point, Rule};
 
@@ -23,19 +23,19 @@ pub fn first_on_buffers(
     ensures { result ≡ find (λ r. breaks_early r (past history.now) (point_of point.now)) on_buffers }
 {
     let tests = [
-        (Rule::LiveId, ids::breaks_live_id(history, point)),
-        (Rule::Size, sizes::breaks_size(history, point)),
-        (Rule::Usage, sizes::breaks_usage(history, point)),
-        (Rule::Range, ranges::breaks_range(history, point)),
-        (Rule::Align, ranges::breaks_align(history, point)),
+        (Rule::LiveId, vk_rules::breaks_live_id(history, point)),
+        (Rule::Size, vk_rules::breaks_size(history, point)),
+        (Rule::Usage, vk_rules::breaks_usage(history, point)),
+        (Rule::Range, vk_rules::breaks_range(history, point)),
+        (Rule::Align, vk_rules::breaks_align(history, point)),
         (Rule::Overlap, searched.is_overlapping),
         (
             Rule::Subresource,
-            ranges::breaks_subresource(history, point),
+            vk_rules::breaks_subresource(history, point),
         ),
         (Rule::OwnerPair, searched.is_unpaired),
         (Rule::SignalOrder, searched.is_unordered),
-        (Rule::PassWrite, passes::breaks_pass_write(history, point)),
+        (Rule::PassWrite, vk_rules::breaks_pass_write(history, point)),
     ];
     first_broken(&tests)
 }
@@ -51,22 +51,25 @@ pub fn first_on_barrier(
     ensures { result ≡ find (λ r. breaks_early r (past history.now) (point_of point.now)) on_barriers }
 {
     let tests = [
-        (Rule::LiveId, ids::breaks_live_id(history, point)),
-        (Rule::Size, sizes::breaks_size(history, point)),
-        (Rule::Usage, sizes::breaks_usage(history, point)),
-        (Rule::Range, ranges::breaks_range(history, point)),
+        (Rule::LiveId, vk_rules::breaks_live_id(history, point)),
+        (Rule::Size, vk_rules::breaks_size(history, point)),
+        (Rule::Usage, vk_rules::breaks_usage(history, point)),
+        (Rule::Range, vk_rules::breaks_range(history, point)),
         (Rule::Overlap, searched.is_overlapping),
         (
             Rule::Subresource,
-            ranges::breaks_subresource(history, point),
+            vk_rules::breaks_subresource(history, point),
         ),
-        (Rule::Stage, synchronization::breaks_stage(point)),
-        (Rule::Layout, layouts::breaks_layout(history, point)),
-        (Rule::OldLayout, layouts::breaks_old_layout(history, point)),
-        (Rule::OwnerWhole, owners::breaks_owner_whole(history, point)),
+        (Rule::Stage, vk_rules::breaks_stage(point)),
+        (Rule::Layout, vk_rules::breaks_layout(history, point)),
+        (Rule::OldLayout, vk_rules::breaks_old_layout(history, point)),
+        (
+            Rule::OwnerWhole,
+            vk_rules::breaks_owner_whole(history, point),
+        ),
         (Rule::OwnerPair, searched.is_unpaired),
         (Rule::SignalOrder, searched.is_unordered),
-        (Rule::PassWrite, passes::breaks_pass_write(history, point)),
+        (Rule::PassWrite, vk_rules::breaks_pass_write(history, point)),
     ];
     first_broken(&tests)
 }

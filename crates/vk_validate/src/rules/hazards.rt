@@ -1,11 +1,8 @@
 ghost use Rattle.std.specs.Prelude.{◌≡◌, ◌∷◌, ◌==◌, IfOk, None};
-ghost use Rattle.vk_model.specs.Basics.{holds};
 ghost use Rattle.vk_model.specs.declared.entry.Entry.{Entry as AnyEntry};
-ghost use Rattle.vk_model.specs.Trace.Objects.{live};
 ghost use Rattle.vk_model.specs.Trace.Point.{Host};
 ghost use Rattle.vk_model.specs.Trace.Structure.{IsOrdered};
 ghost use Rattle.vk_model.specs.Rules.Hazards as rule;
-ghost use Rattle.vk_model.specs.Rules.Ids.{is_resource};
 ghost use Rattle.vk_model.specs.Sync.Complete.{some_busy};
 ghost use Rattle.vk_model.specs.Trace.PointViews.{action_of, point_of};
 ghost use Rattle.vk_history.specs.declared.changes.Change.TheVariants as change;
@@ -25,6 +22,7 @@ use std::alloc::AllocError;
 use vk_history::{Change, History, change_by};
 use vk_model::{Action, Entry, Length, Point};
 use vk_order::{Access, flushed_seen, host_seen, invalidated_seen, prefixes};
+use vk_rules::is_live_resource;
 use vk_touches::Conflicts;
 
 /// What a point that breaks no rule before those on accesses finds wrong with the bytes that it
@@ -178,14 +176,4 @@ fn is_busy_at(history: &History<'_>, point: &Point<'_>, resource: u32) -> Result
     }
     let new_node = history.new_node(point)?;
     Ok(history.is_busy(resource, &new_node))
-}
-
-/// Whether an id is a live resource.
-pub fn is_live_resource(history: &History<'_>, id: u32) -> bool
-    ensures { result ≡ holds (live (past history.now) id) is_resource }
-{
-    match history.live(id) {
-        Some(Entry::Buffer { .. } | Entry::Image { .. }) => true,
-        _ => false,
-    }
 }

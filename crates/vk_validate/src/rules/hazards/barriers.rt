@@ -16,12 +16,12 @@ ghost use Rattle.vk_touches.specs.Bytes.{HaveNumbers};
 ghost use Rattle.vk_touches.specs.Conflicts.{AreConflicts, FoundAmong, IsEarly, MissesAt};
 ghost use Rattle.vk_validate.specs.Inner.Transitions.{AreCovered, AreMoved, FoundInMoved, FindsEarly, FindsMissed};
 
-use crate::written::is_release;
 use std::alloc::AllocError;
 use vk_history::{ElementPart, History, ResourceContents, is_transition};
 use vk_image_bytes::{ByteRanges, ImageBytes};
 use vk_model::{Element, ImageElement, Point, SubresourceRange};
 use vk_order::{NewNode, elements_are_alone, host_seen, prefixes};
+use vk_rules::is_release;
 use vk_touches::{Conflicts, TransitionAccess};
 
 /// The bytes that a layout transition reads and writes.

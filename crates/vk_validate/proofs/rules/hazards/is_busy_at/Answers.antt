@@ -7,7 +7,7 @@ use Rattle.vk_model.specs.Trace.PointViews.{point_of}
 use Rattle.vk_order.proofs.PlaceLemmas.{apart_from}
 use Rattle.vk_history.specs.PointViews.{past}
 use Rattle.vk_touches.specs.Touched.{next_node, act_next}
-use Rattle.vk_validate.proofs.Judging.Busy.{destroyed_busy}
+use Rattle.vk_rules.proofs.Judging.Busy.{destroyed_busy}
 use Rattle.vk_validate.proofs.rules.hazards.is_busy_at.Goals as goal
 
 pub returns-then-not-is_live_resource : goal.returns-then-not-is_live_resource

@@ -1,0 +1,4 @@
+pub mod Making
+pub mod Transitions
+pub mod Judging
+pub mod Writing

@@ -1,0 +1,4 @@
+pub mod Ranges
+pub mod RuleParts
+pub mod Overlapping
+pub mod Owners
