@@ -4,7 +4,9 @@
     EXPLAIN=FILE tests/explain_options.py
 """
 
+import difflib
 import errno
+import itertools
 import json
 import os
 import pty
@@ -53,6 +55,15 @@ def named_object(name):
     return f'{{"file":{json.dumps(file_of(name))},{said_of(name, "explained.json")[1:]}'
 
 
+def changes_of(explained):
+    """What --repaired writes to standard error of an explanation whose repair ends in an accepted trace: the
+    verdict, and the lines of the repair."""
+    lines = explained.splitlines(keepends=True)
+    first = next(i for i, line in enumerate(lines) if line.startswith("  repair"))
+    edits = itertools.takewhile(lambda line: line.startswith("    "), lines[first + 1 :])
+    return "".join([lines[0], lines[first], *edits])
+
+
 # ---- files and standard input
 
 
@@ -67,7 +78,7 @@ def file_tests():
         as_json = answered(said_of(name, "explained.json"), status)
         yield compared(f"explain --json {name}", as_json, [EXPLAIN, "--json", file_of(name)])
         yield compared(f"explain {name} --json", as_json, [EXPLAIN, file_of(name), "--json"])
-    repaired = answered(said_of(BROKEN, "repaired.json"))
+    repaired = answered(said_of(BROKEN, "repaired.json"), error=changes_of(broken))
     yield compared("explain --repaired FILE", repaired, [EXPLAIN, "--repaired", file_of(BROKEN)])
     yield compared("explain --repaired", repaired, [EXPLAIN, "--repaired"], text_of(BROKEN))
     yield compared(
@@ -104,6 +115,50 @@ def judge_several_repaired():
     wanted = (b"", REFUSED, True)
     came = (answer.output, answer.status, answer.error.startswith(b"error: "))
     return difference(wanted, came)
+
+
+# Formats of images of which neither can be copied to the other: their texels have other sizes.
+FORMATS = ("R8_UINT", "R8G8B8A8_UINT")
+# Layouts of the same trace: in a line, without spaces, an entry or a value on a line.
+LAYOUTS = {
+    "in a line": lambda trace: json.dumps(trace),
+    "without spaces": lambda trace: json.dumps(trace, separators=(",", ":")) + "\n",
+    "an entry on a line": lambda trace: "[\n  " + ",\n  ".join(map(json.dumps, trace)) + "\n]\n",
+    "a value on a line": lambda trace: json.dumps(trace, indent="\t") + "\n",
+}
+
+
+def repaired_tests():
+    """What no repair changes is written as it stands in the input, and what changes is told."""
+    for name in (ACCEPTED, BROKEN, "image_without_barrier"):
+        for layout, written in LAYOUTS.items():
+            text = written(json.loads(text_of(name)))
+            yield Test(f"explain --repaired < {name}, {layout}", lambda n=name, t=text: judge_layout(n, t))
+    yield Test("explain --repaired without a repair", judge_unrepaired)
+
+
+def judge_layout(name, text):
+    """The repaired trace is that of the example, and all else of the text is kept."""
+    answer = run([EXPLAIN, "--repaired"], text.encode())
+    plain = run([EXPLAIN], text.encode())
+    changed = answer.output.decode()
+    kept = difflib.SequenceMatcher(None, text, changed, autojunk=False).get_opcodes()
+    lost = [text[a:b] for kind, a, b, _, _ in kept if kind in ("delete", "replace")]
+    wanted = (0, text if plain.status == 0 else "", [])
+    came = (answer.status, changed if plain.status == 0 else "", [part for part in lost if part.strip()])
+    return difference(wanted, came) or difference(
+        "" if plain.status == 0 else changes_of(plain.output.decode()), answer.error.decode()
+    )
+
+
+def judge_unrepaired():
+    """Of a fault without a repair it is told that there is none, and the input is written as it is."""
+    images = [["image", i, f, 4, 4, 1, 1, "optimal", 3, "exclusive", ["dedicated", 0]] for i, f in enumerate(FORMATS)]
+    copy = ["copy_image", 0, 6, 1, 7, [[0, 0, 0, 0, 1, 0, 0, 0, 0, 1, 1]]]
+    text = json.dumps([*images, ["submit", 0, [[[], [copy], []]]]]).encode()
+    told = b"refused 2.0.0 FORMAT\n  repair: none found\n"
+    answer = run([EXPLAIN, "--repaired"], text)
+    return difference((text, 1, told), (answer.output, answer.status, answer.error))
 
 
 def unreadable_tests():
@@ -286,9 +341,10 @@ def judge_colours(name, status):
 
 
 def judge_plain(options, ending, status):
-    """Objects and traces have no colours."""
+    """Objects, traces and what is told of repairs have no colours."""
     answer = run_on_terminal([EXPLAIN, *options], text_of(BROKEN))
-    return difference(answered(said_of(BROKEN, ending), status), answer)
+    told = changes_of(said_of(BROKEN)) if options == ["--repaired"] else ""
+    return difference(answered(said_of(BROKEN, ending), status, told), answer)
 
 
 def typed(arguments, data):
@@ -323,6 +379,7 @@ def all_tests():
 
     yield from file_tests()
     yield from several_tests()
+    yield from repaired_tests()
     yield from unreadable_tests()
     yield from names_tests()
     yield from help_tests()

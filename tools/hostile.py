@@ -11,8 +11,8 @@ with one to four changes (mutations.py). Of each input it has to hold that
 - both say that it is a trace exactly where a reading by its forms does (strict_reading.py);
 - both refuse it at the same point by the same rule, or neither does; the JSON of `explain` says the same;
 - `replay` answers the same in another order;
-- what `explain --repaired` writes is a trace, with the verdict that its status says; and the same trace where the
-  input is accepted.
+- what `explain --repaired` writes is a trace, with the verdict that its status says, and it tells of the first fault;
+  of an input that is accepted it writes the same text, and tells nothing.
 
 As many inputs are run side by side as there are processors, or as `--jobs` says. What doesn't hold is printed, with
 the input if it is short; `--keep FOLDER` writes such inputs there. At the end the inputs are counted by what came of
@@ -187,14 +187,15 @@ def judge_repaired(watch, programs, text, wanted):
         whole = watch.run([explain], text)
         need(said == whole, f"explain: {whole}; --repaired: {said}")
         return
-    need(said.status in (REPLAYED, REFUSED) and not said.error, f"explain --repaired: {said}")
+    told = verdict_of(wanted)[0] if wanted.status == REFUSED else b""
+    is_told = said.error.startswith(told) and bool(said.error) == bool(told)
+    need(said.status in (REPLAYED, REFUSED) and is_told, f"explain --repaired: {said}")
     need(is_trace(said.output), f"explain --repaired writes no trace: {said}")
     again = watch.run([replay], said.output)
     statuses = (REFUSED,) if said.status == REFUSED else (REPLAYED, STOPPED)
     need(again.status in statuses, f"explain --repaired: {said}; replay of that: {again}")
-    if wanted.status != REFUSED:  # (digits of bytes are written as small letters)
-        same = json.loads(said.output.lower()) == json.loads(text.lower())
-        need(same, f"explain --repaired of what is accepted: {said}")
+    if wanted.status != REFUSED:
+        need(said.output == text, f"explain --repaired of what is accepted: {said}")
 
 
 def came_of(programs, text, order):

@@ -130,8 +130,19 @@ fn explain_from<I: Read + Drop, R: Print + Eprint + AllocGlobal>(
 ) -> Course {
     let mut reader = Watched::new(reader);
     let mut writer = Watched::new(io::writer(rt));
-    match run(rt.alloc(), &mut reader, &mut writer, wanted, presentation) {
-        Ok(judgment) => course.after(exit_status(judgment), true, false),
+    let mut changes = String::new(rt.alloc());
+    match run(
+        rt.alloc(),
+        &mut reader,
+        &mut writer,
+        wanted,
+        presentation,
+        &mut changes,
+    ) {
+        Ok(judgment) => {
+            let _unprinted = eprint!(rt; "{changes}").is_err();
+            course.after(exit_status(judgment), true, false)
+        }
         Err(error) => {
             let is_broken = matches!(error, RunError::WriteFault(_));
             let status = match name {

@@ -34,7 +34,7 @@ fn command<'a>(alloc: Global) -> Result<Command<'a>, AllocError> {
         .long("repaired")
         .action(ArgAction::SetTrue)
         .conflicts_with("json")?
-        .help("Print the trace with the repairs applied, and nothing else");
+        .help("Print the repaired trace; what changes is told on standard error");
     let names = Arg::new(alloc, "names")
         .long("names")
         .value_name("FILE")

@@ -12,7 +12,7 @@ ghost use Rattle.vk_explain.specs.Inner.Measured.{IsMeasuredAt};
 
 use crate::forms::{Form, Wanted};
 use crate::json::{acceptance_json, refusal_json};
-use crate::mending::repaired_of;
+use crate::mending::repaired_with;
 use crate::mistakes::no_trace;
 use crate::presentation::{Presentation, presented};
 use crate::reports::{acceptance_text, refusal_text};
@@ -46,8 +46,9 @@ pub struct Explanation {
 
 /// Reads an input to its end, and writes what is said of it: that it is a trace that is accepted and
 /// what it has, or that is refused, where, by which rule, and what the point does, or that it is no
-/// trace; or the trace as it is after repairs. Nothing is run. Nothing is written before the whole
-/// text is built, so only `WriteFault` has written a front of it. Nothing is flushed.
+/// trace; or the trace as it is after repairs, whose lines are added to `changes`. Nothing is run. Nothing
+/// is written before the whole text is built, so only `WriteFault` has written a front of it. Nothing is
+/// flushed.
 ///
 /// # Errors
 ///
@@ -58,6 +59,7 @@ pub fn run<R: Read, W: Write>(
     writer: &mut Watched<W>,
     wanted: Wanted,
     presentation: &Presentation<'_>,
+    changes: &mut String,
 ) -> Result<Judgment, RunError>
     requires reads { reader.old.failed ≡ false }
     requires writes { writer.old.failed ≡ false }
@@ -81,7 +83,7 @@ pub fn run<R: Read, W: Write>(
         ⊎ IfSome (R.remaining reader.old.inner) (λ input. 16777216 < length input) }
 {
     let input = read_all(alloc, reader)?;
-    match answer_to(alloc, &input, wanted, presentation) {
+    match answer_to(alloc, &input, wanted, presentation, changes) {
         Ok(answer) => {
             write_all(writer, answer.shown.as_slice())?;
             Ok(answer.judgment)
@@ -105,21 +107,27 @@ fn answer_to(
     input: &[u8],
     wanted: Wanted,
     presentation: &Presentation<'_>,
+    changes: &mut String,
 ) -> Result<Answer, AllocError>
     ensures { IfOk result (λ a. IsAnswer wanted presentation.now input.now a.shown.items a.judgment) }
 {
-    let Explanation { judgment, text } = said_of(alloc, input, wanted)?;
+    let Explanation { judgment, text } = said_of(alloc, input, wanted, changes)?;
     let shown = presented(alloc, text.as_bytes(), wanted, presentation)?;
     Ok(Answer { judgment, shown })
 }
 
 /// What is asked of the bytes of an input.
-fn said_of(alloc: Global, input: &[u8], wanted: Wanted) -> Result<Explanation, AllocError>
+fn said_of(
+    alloc: Global,
+    input: &[u8],
+    wanted: Wanted,
+    changes: &mut String,
+) -> Result<Explanation, AllocError>
     ensures { IfOk result (λ e. Answers wanted input.now (string_bytes e.text) e.judgment) }
 {
     match wanted {
         Wanted::Explained(form) => explanation_of(alloc, input, form),
-        Wanted::Repaired => repaired_of(alloc, input),
+        Wanted::Repaired => repaired_with(alloc, input, changes),
     }
 }
 

@@ -9,6 +9,7 @@ mod json;
 mod listing;
 mod mending;
 mod mistakes;
+mod patching;
 mod places;
 mod presentation;
 mod repairs;

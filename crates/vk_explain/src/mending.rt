@@ -7,39 +7,61 @@ ghost use Rattle.vk_explain.specs.declared.forms.Wanted.TheVariants.{Repaired};
 use crate::explaining::{Explanation, Judgment, judgment_by};
 use crate::forms::Form;
 use crate::mistakes::no_trace;
-use crate::repairs::{RepairSearch, sought};
+use crate::patching::patched;
+use crate::repairs::{
+    NONE_FOUND, RepairSearch, RepairWords, lines_of, none_sought, sought, words_of,
+};
 use std::alloc::{AllocError, Global};
 use std::marker::Model;
 use vk_model::{At, Entry, Rule};
 use vk_repairs::Repair;
 use vk_trace::{ReadTraceError, read_trace};
 use vk_validate::{Verdict, validate};
+use vk_words::push_at;
 use vk_writer::trace_json;
 
 /// So often a repair is sought, each of the trace that the one before it made.
 const MOST_REPAIRS: usize = 25;
 
 /// The trace in the bytes of an input as it is after repairs, as JSON, with the verdict on it. What is
-/// written has been read again, and the verdict is of what was read. The only error is want of memory.
+/// written has been read again, and the verdict is of what was read. What no repair changes is written as
+/// it is in the input. The only error is want of memory.
 pub fn repaired_of(alloc: Global, input: &[u8]) -> Result<Explanation, AllocError>
     ensures { IfOk result (λ e. Answers Repaired input.now (string_bytes e.text) e.judgment) }
 {
+    repaired_with(alloc, input, &mut String::new(alloc))
+}
+
+/// The same; the lines on each repair are added to `changes`.
+pub(crate) fn repaired_with(
+    alloc: Global,
+    input: &[u8],
+    changes: &mut String,
+) -> Result<Explanation, AllocError>
+    ensures { IfOk result (λ e. Answers Repaired input.now (string_bytes e.text) e.judgment) }
+{
     match read_trace(alloc, input) {
-        Ok(trace) => mended(alloc, input, trace),
+        Ok(trace) => mended(alloc, input, trace, changes),
         Err(ReadTraceError::NotTrace) => no_trace(alloc, input, Form::Text),
         Err(ReadTraceError::NoMemory) => Err(AllocError),
     }
 }
 
 /// A trace after repairs.
-fn mended(alloc: Global, input: &[u8], trace: Vec<Entry>) -> Result<Explanation, AllocError>
+fn mended(
+    alloc: Global,
+    input: &[u8],
+    trace: Vec<Entry>,
+    changes: &mut String,
+) -> Result<Explanation, AllocError>
     requires { IsTrace input.now trace.items }
     ensures { IfOk result (λ e. Answers Repaired input.now (string_bytes e.text) e.judgment) }
 {
     let fault = fault_of(alloc, trace.as_slice())?;
     let given = unchanged(alloc, input, trace.as_slice(), fault)?;
-    let changed = after_repairs(alloc, trace, fault)?;
-    let text = trace_json(alloc, changed.as_slice())?;
+    let Some(text) = after_repairs(alloc, input, trace, fault, changes)? else {
+        return Ok(given);
+    };
     match judged(alloc, text.as_bytes())? {
         Some(judgment) => Ok(Explanation { judgment, text }),
         None => Ok(given),
@@ -110,43 +132,135 @@ impl Model for Faulted {
 }
 
 impl Faulted {
-    /// What a repair makes of it, if one is found.
-    fn next(&self, alloc: Global) -> Result<Option<Faulted>, AllocError> {
+    /// What a repair makes of it, if one is found; the repair is told of.
+    fn next(
+        &self,
+        alloc: Global,
+        mending: &mut Mending<'_>,
+    ) -> Result<Option<Faulted>, AllocError> {
         let Some((at, rule)) = self.fault else {
             return Ok(None);
         };
+        mending.push_fault(at, rule)?;
         match sought(alloc, self.trace.as_slice(), at, rule)? {
-            RepairSearch::Found(
-                Repair {
+            RepairSearch::Found(found) => {
+                let words = words_of(alloc, self.trace.as_slice(), &found)?;
+                mending.push_repair(alloc, &words, found.next)?;
+                let Repair {
                     edits: _,
                     changed,
                     next,
                     weaker: _,
                     stands_in: _,
-                },
-            ) => Ok(Some(Faulted {
-                trace: changed,
-                fault: next,
-            })),
-            RepairSearch::Nothing | RepairSearch::TooLarge => Ok(None),
+                } = found;
+                Ok(Some(Faulted {
+                    trace: changed,
+                    fault: next,
+                }))
+            }
+            RepairSearch::Nothing => {
+                mending.changes.push_str(NONE_FOUND)?;
+                Ok(None)
+            }
+            RepairSearch::TooLarge => {
+                let line = none_sought(alloc)?;
+                mending.changes.push_str(line.as_str())?;
+                Ok(None)
+            }
         }
     }
 }
 
-/// A trace after as many repairs as are found.
+/// What is told of repairs, and the text that they make of an input.
+#[derive(Drop)]
+struct Mending<'a> {
+    /// The lines on each repair.
+    changes: &'a mut String,
+    /// Whether there was a repair.
+    is_changed: bool,
+    /// The text after the repairs so far; none where one of them has no place in it.
+    text: Option<Vec<u8>>,
+}
+
+impl Mending<'_> {
+    /// The line on the fault that a repair is sought for.
+    fn push_fault(&mut self, at: At, rule: Rule) -> Result<(), AllocError> {
+        self.changes.push_str("refused ")?;
+        push_at(self.changes, at)?;
+        self.changes.push_str(" ")?;
+        self.changes.push_str(rule.name())?;
+        self.changes.push_str("\n")
+    }
+
+    /// The lines on a repair, after which this is the first fault, and the text with its edits.
+    fn push_repair(
+        &mut self,
+        alloc: Global,
+        words: &RepairWords,
+        next: Option<(At, Rule)>,
+    ) -> Result<(), AllocError> {
+        let lines = lines_of(alloc, words, next)?;
+        self.changes.push_str(lines.as_str())?;
+        self.is_changed = true;
+        for edit in &words.edits {
+            if let Some(text) = self.text.take() {
+                self.text = patched(alloc, text.as_slice(), edit)?;
+            }
+        }
+        Ok(())
+    }
+}
+
+/// The text of a trace after as many repairs as are found; none where there is none.
 fn after_repairs(
     alloc: Global,
+    input: &[u8],
     trace: Vec<Entry>,
     fault: Option<(At, Rule)>,
-) -> Result<Vec<Entry>, AllocError>
+    changes: &mut String,
+) -> Result<Option<String>, AllocError>
     requires { fault ≡ first_fault trace.items }
 {
+    let mut text = Vec::new(alloc);
+    text.extend_from_slice(input)?;
+    let mut mending = Mending {
+        changes,
+        is_changed: false,
+        text: Some(text),
+    };
     let mut faulted = Faulted { trace, fault };
     for _ in 0..MOST_REPAIRS {
-        match faulted.next(alloc)? {
+        match faulted.next(alloc, &mut mending)? {
             Some(next) => faulted = next,
-            None => return Ok(faulted.trace),
+            None => break,
         }
     }
-    Ok(faulted.trace)
+    if !mending.is_changed {
+        return Ok(None);
+    }
+    let text = written(alloc, faulted.trace.as_slice(), mending.text.take())?;
+    Ok(Some(text))
+}
+
+/// A trace as it is in a text, where it is; else entry by entry.
+fn written(alloc: Global, trace: &[Entry], text: Option<Vec<u8>>) -> Result<String, AllocError> {
+    let plain = trace_json(alloc, trace)?;
+    let Some(bytes) = text else {
+        return Ok(plain);
+    };
+    let Ok(text) = str::from_utf8(bytes.as_slice()) else {
+        return Ok(plain);
+    };
+    match read_trace(alloc, bytes.as_slice()) {
+        Ok(again) => {
+            let same = trace_json(alloc, again.as_slice())?;
+            if same.as_str() == plain.as_str() {
+                String::from_str(alloc, text)
+            } else {
+                Ok(plain)
+            }
+        }
+        Err(ReadTraceError::NotTrace) => Ok(plain),
+        Err(ReadTraceError::NoMemory) => Err(AllocError),
+    }
 }

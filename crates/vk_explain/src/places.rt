@@ -134,8 +134,30 @@ impl Walk<'_> {
     }
 }
 
-/// The index at which a member begins.
-fn start_of(input: &[u8], path: &[usize]) -> Option<usize> {
+/// The index behind the array, the object or the string that begins at an index.
+pub(crate) fn end_of(input: &[u8], start: usize) -> usize {
+    let mut walk = Walk {
+        path: &[],
+        entered: 0,
+        depth: 0,
+        member: 0,
+        before_member: false,
+        quoted: false,
+        escaped: false,
+    };
+    for (index, byte) in input.iter().enumerate() {
+        if index >= start {
+            let _begins = walk.step(*byte);
+            if walk.depth == 0 && !walk.quoted {
+                return index.saturating_add(1);
+            }
+        }
+    }
+    input.len()
+}
+
+/// The index at which a member begins; none where a list on the way to it ends before.
+pub(crate) fn start_of(input: &[u8], path: &[usize]) -> Option<usize> {
     let mut walk = Walk {
         path,
         entered: 0,
@@ -148,6 +170,9 @@ fn start_of(input: &[u8], path: &[usize]) -> Option<usize> {
     for (index, byte) in input.iter().enumerate() {
         if walk.step(*byte) {
             return Some(index);
+        }
+        if walk.depth < walk.entered {
+            return None;
         }
     }
     None

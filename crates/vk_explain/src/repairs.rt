@@ -96,13 +96,16 @@ pub fn repair_lines(
             let words = words_of(alloc, trace, &found)?;
             lines_of(alloc, &words, found.next)
         }
-        RepairSearch::Nothing => String::from_str(alloc, "  repair: none found\n"),
+        RepairSearch::Nothing => String::from_str(alloc, NONE_FOUND),
         RepairSearch::TooLarge => none_sought(alloc),
     }
 }
 
+/// The line where no repair is found.
+pub(crate) const NONE_FOUND: &str = "  repair: none found\n";
+
 /// The line where the trace is too large.
-fn none_sought(alloc: Global) -> Result<String, AllocError> {
+pub(crate) fn none_sought(alloc: Global) -> Result<String, AllocError> {
     let mut line = String::from_str(
         alloc,
         "  repair: none is sought in a trace of more than 4,096 points, or of more than 16,384 ",
@@ -112,7 +115,7 @@ fn none_sought(alloc: Global) -> Result<String, AllocError> {
 }
 
 /// The lines on a repair, after which this is the first fault.
-fn lines_of(
+pub(crate) fn lines_of(
     alloc: Global,
     words: &RepairWords,
     next: Option<(At, Rule)>,
