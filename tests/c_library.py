@@ -76,7 +76,10 @@ def judge_python(trace):
     library = Library(f"{FOLDER}/libzorthewin.so.0")
     for option, form in (((), TEXT), (("--json",), JSON), (("--repaired",), REPAIRED)):
         status, said = library.explain(trace, form)
-        found = difference(run([EXPLAIN, *option], trace), answered(said, status))
+        came = run([EXPLAIN, *option], trace)
+        # (what repairs change the program says on standard error)
+        error = came.error.decode() if form == REPAIRED else ""
+        found = difference(came, answered(said, status, error))
         if found:
             return f"explain {option}: {found}"
     for order in ("first", "last", "seed"):
