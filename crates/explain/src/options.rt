@@ -33,8 +33,9 @@ fn command<'a>(alloc: Global) -> Result<Command<'a>, AllocError> {
     let repaired = Arg::new(alloc, "repaired")
         .long("repaired")
         .action(ArgAction::SetTrue)
-        .conflicts_with("json")?
-        .help("Print the repaired trace; what changes is told on standard error");
+        .help(
+            "Print the repaired trace; what changes is told on standard error. With --json, add both to the object",
+        );
     let names = Arg::new(alloc, "names")
         .long("names")
         .value_name("FILE")
@@ -77,12 +78,11 @@ pub fn read<'a>(alloc: Global, arguments: &'a [String]) -> Result<Options<'a>, O
 }
 
 fn wanted_by(matches: &ArgMatches<'_>) -> Wanted {
-    if matches.get_flag("repaired") {
-        Wanted::Repaired
-    } else if matches.get_flag("json") {
-        Wanted::Explained(Form::Json)
-    } else {
-        Wanted::Explained(Form::Text)
+    match (matches.get_flag("json"), matches.get_flag("repaired")) {
+        (false, false) => Wanted::Explained(Form::Text),
+        (true, false) => Wanted::Explained(Form::Json),
+        (false, true) => Wanted::Repaired,
+        (true, true) => Wanted::ExplainedAndRepaired,
     }
 }
 

@@ -8,7 +8,7 @@ use crate::errors::{CallsError, CallsMistake, CallsPlace};
 use crate::forms::{Misfit, misfit_of};
 use serde_json::{Error, Value};
 use std::alloc::{AllocError, Global};
-use vk_json::{count_objects, first_nested};
+use vk_mistakes::{count_objects, first_nested};
 
 /// The most objects of a file: each takes up to a thousand bytes when it is read. A trace has at most
 /// 131,072 entries, and as many buffers and images.

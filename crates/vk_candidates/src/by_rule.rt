@@ -28,9 +28,9 @@ fn by_entry(case: &Case<'_>, found: &mut Candidates) -> Result<(), AllocError> {
         Rule::Queue => entries::queue(case, 4, found),
         Rule::QueueKind => entries::queue(case, 2, found),
         Rule::Align => {
-            overlaps::align(case, found)?;
             entries::queue(case, 2, found)?;
-            staging::unaligned(case, found)
+            staging::unaligned(case, found)?;
+            overlaps::align(case, found)
         }
         Rule::Size => {
             sizes::size(case, found)?;

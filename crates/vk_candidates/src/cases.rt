@@ -1,6 +1,7 @@
+use crate::edits::{Edit, InBatch};
+use crate::lists::EditList;
 use crate::uses::{Use, has, meet, uses_of};
 use std::alloc::{AllocError, Global};
-use vk_edits::{Edit, EditList, InBatch};
 use vk_model::{Action, Batch, Entry, Point, Rule};
 
 /// A refused trace, of which repairs are sought.

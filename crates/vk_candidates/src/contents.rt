@@ -1,8 +1,8 @@
 use crate::cases::{Candidates, Case, place_of};
+use crate::edits::InBatch;
 use crate::hazards::barrier;
 use crate::uses::{has, uses_of};
 use std::alloc::AllocError;
-use vk_edits::InBatch;
 use vk_model::{
     Accesses, Action, Cmd, Dependency, Element, Entry, ImageElement, Layout, Length, Place, Point,
     Sequence, Stages,

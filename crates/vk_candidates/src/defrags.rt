@@ -1,10 +1,10 @@
 use crate::cases::{Candidates, Case};
 use crate::entries::moved_before;
+use crate::lists::EditList;
 use crate::lives::{ended_later, is_live};
 use crate::passes::named_defrag;
 use crate::renaming::{Renaming, renamed_entry};
 use std::alloc::AllocError;
-use vk_edits::EditList;
 use vk_model::{Action, Entry, PoolKind};
 
 /// What a defragmentation is begun with.

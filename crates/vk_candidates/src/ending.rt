@@ -1,6 +1,8 @@
 use crate::cases::{Candidates, Case};
+use crate::edits::{Change, InBatch};
 use crate::entries::unmap_all;
 use crate::host_hazards;
+use crate::lists::EditList;
 use crate::lives::is_live;
 use crate::orders::covering;
 use crate::pass_lists::without;
@@ -9,15 +11,36 @@ use crate::places::memory_of;
 use crate::uses::{Use, meet, uses_of};
 use crate::waits::{add_held, held, signal_earlier, signal_for};
 use std::alloc::AllocError;
-use vk_edits::{Change, EditList, InBatch};
-use vk_model::{Action, Batch, Entry, SemaphoreValue, Sequence};
+use vk_model::{Action, Batch, Duplicate, Entry, SemaphoreValue, Sequence};
 
-/// Repairs of the end of an object that is in use: the host waits for what uses it; a batch that
-/// waits is signaled first; what lies in it is destroyed before.
+/// So many waits after an end are tried.
+const MOST_WAITS: usize = 8;
+
+/// Repairs of the end of an object that is in use: it ends after a wait that follows; the host waits for
+/// what uses it; a batch that waits is signaled first; what lies in it is destroyed before.
 pub fn in_use(case: &Case<'_>, found: &mut Candidates) -> Result<(), AllocError> {
     let uses = uses_of(case.alloc, case.refused.action)?;
+    behind_waits(case, found)?;
     known_complete(case, uses.as_slice(), found)?;
     destroyed_before(case, found)
+}
+
+/// The end comes after a wait of the host that follows it.
+fn behind_waits(case: &Case<'_>, found: &mut Candidates) -> Result<(), AllocError> {
+    let number = case.refused.entry;
+    let Some(end) = case.trace.get(number) else {
+        return Ok(());
+    };
+    let waits = case.trace.iter().enumerate().filter(|(place, entry)| {
+        *place > number && matches!(entry, Entry::Wait { .. })
+    });
+    for (place, _) in waits.take(MOST_WAITS) {
+        let mut edits = case.edits();
+        edits.remove(number)?;
+        edits.insert(place.saturating_add(1), end.duplicate()?)?;
+        found.add(edits)?;
+    }
+    Ok(())
 }
 
 /// Repairs of a begin or an end of a pass while resources of its pool are in use: the same for all of

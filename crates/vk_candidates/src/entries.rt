@@ -1,9 +1,9 @@
 use crate::cases::{Candidates, Case};
 use crate::defrags::new_defrag;
+use crate::lists::EditList;
 use crate::places::visible;
 use crate::uses::uses_of;
 use std::alloc::AllocError;
-use vk_edits::EditList;
 use vk_model::{Action, BufferInfo, Duplicate, Entry, ImageInfo, Usage};
 
 /// A resource is mapped fewer times than this.

@@ -11,30 +11,45 @@ fn same(case: &Case<'_>, elements: &[Dependency]) -> Result<Sequence<Dependency>
     Ok(Sequence::new(all))
 }
 
-/// The await has the elements of the set.
+/// The set and the await have the elements of the one that has more, or else of the other one.
 pub fn event_dependency(case: &Case<'_>, found: &mut Candidates) -> Result<(), AllocError> {
-    let Action::Run(Cmd::Await { event, .. }) = case.refused.action else {
+    let Action::Run(
+        Cmd::Await {
+            event,
+            elements: awaited,
+        },
+    ) = case.refused.action
+    else {
         return Ok(());
     };
     for point in case.earlier {
         if let Action::Run(
             Cmd::Set {
                 event: other,
-                elements,
+                elements: set,
             },
         ) = point.action
         {
             if other == event {
-                let elements = same(case, elements.as_slice())?;
-                let mut edits = case.edits();
-                edits.replace_command(
-                    place_of(&case.refused),
-                    Cmd::Await {
-                        event: *event,
-                        elements,
-                    },
-                )?;
-                found.add(edits)?;
+                let as_awaited = Cmd::Set {
+                    event: *event,
+                    elements: same(case, awaited.as_slice())?,
+                };
+                let as_set = Cmd::Await {
+                    event: *event,
+                    elements: same(case, set.as_slice())?,
+                };
+                let mut of_set = case.edits();
+                of_set.replace_command(place_of(point), as_awaited)?;
+                let mut of_await = case.edits();
+                of_await.replace_command(place_of(&case.refused), as_set)?;
+                if set.len() < awaited.len() {
+                    found.add(of_set)?;
+                    found.add(of_await)?;
+                } else {
+                    found.add(of_await)?;
+                    found.add(of_set)?;
+                }
             }
         }
     }

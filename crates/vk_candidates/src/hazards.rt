@@ -1,9 +1,10 @@
 use crate::cases::{Candidates, Case, place_of};
+use crate::edits::Change;
+use crate::lists::EditList;
 use crate::orders::{Ordering, covering, order_after};
 use crate::uses::{Use, uses_of};
 use crate::{host_hazards, stages, transitions};
 use std::alloc::AllocError;
-use vk_edits::{Change, EditList};
 use vk_model::{
     Accesses, Action, Batch, Cmd, Dependency, Element, Entry, Length, Point, Rule, Sequence, Stages,
 };
@@ -273,8 +274,8 @@ fn after_queues(
     Ok(())
 }
 
-/// Where the host wrote after the submit: an empty submit after the write, which signals, and a wait
-/// of the batch for it; also with a flush.
+/// Where the host wrote after the submit: an empty submit after the write, also with a flush; and one
+/// that signals, with a wait of the batch for it.
 fn after_late_write(
     case: &Case<'_>,
     uses: &[Use],
@@ -286,6 +287,7 @@ fn after_late_write(
     if written.entry < case.refused.entry {
         return Ok(());
     }
+    submitted_late(case, &written, found)?;
     let after = written.entry.saturating_add(1);
     let id = case.fresh_id(0);
     for is_flushed in [false, true] {
@@ -299,7 +301,32 @@ fn after_late_write(
         if is_flushed {
             flush_after(&written, &mut edits)?;
         }
-        edits.insert(after, empty_submit(case, id)?)?;
+        edits.insert(after, empty_submit(case, Some(id))?)?;
+        found.add(edits)?;
+    }
+    Ok(())
+}
+
+/// An empty submit right before the entry that lets the batch start, which comes after a write of the host;
+/// also with a flush.
+fn submitted_late(
+    case: &Case<'_>,
+    written: &Point<'_>,
+    found: &mut Candidates,
+) -> Result<(), AllocError> {
+    let mut host = case.earlier.iter().rev();
+    let Some(start) = host.find(|point| matches!(point.action, Action::Host(_))) else {
+        return Ok(());
+    };
+    if start.entry <= written.entry {
+        return Ok(());
+    }
+    for is_flushed in [false, true] {
+        let mut edits = case.edits();
+        if is_flushed {
+            flush_after(written, &mut edits)?;
+        }
+        edits.insert(start.entry, empty_submit(case, None)?)?;
         found.add(edits)?;
     }
     Ok(())
@@ -319,9 +346,13 @@ fn flush_after(written: &Point<'_>, edits: &mut EditList) -> Result<(), AllocErr
     Ok(())
 }
 
-/// A submit of a batch that signals a semaphore and nothing else, on another queue than the point's.
-fn empty_submit(case: &Case<'_>, semaphore: u32) -> Result<Entry, AllocError> {
-    let signals = vec![in case.alloc; covering(semaphore, 1)]?;
+/// A submit of a batch that has no more than a signal of a semaphore, if one is given, on another queue
+/// than the point's.
+fn empty_submit(case: &Case<'_>, semaphore: Option<u32>) -> Result<Entry, AllocError> {
+    let mut signals = Vec::new(case.alloc);
+    if let Some(id) = semaphore {
+        signals.push(covering(id, 1))?;
+    }
     let batch = Batch {
         waits: Sequence::new(Vec::new(case.alloc)),
         commands: Sequence::new(Vec::new(case.alloc)),

@@ -1,9 +1,9 @@
 use crate::cases::{Candidates, Case};
 use crate::hazards::{QUEUES, barrier};
+use crate::lists::EditList;
 use crate::orders::{Ordering, host_wait_after};
 use crate::uses::{Use, uses_of, writes};
 use std::alloc::AllocError;
-use vk_edits::EditList;
 use vk_model::{Accesses, Action, Dependency, Entry, Length, Rule, Sequence, Stages};
 
 /// Which parts a repair before a point of the host has.

@@ -1,9 +1,9 @@
 use crate::cases::{Candidates, Case, family_of, place_of};
 use crate::halves::{half, nothing, used, whole_half, written};
+use crate::lists::EditList;
 use crate::orders::{Ordering, order_after};
 use crate::ownership::{Half, Owned, after_command, families_of, half_of, is_exclusive};
 use std::alloc::AllocError;
-use vk_edits::EditList;
 use vk_model::{Action, Cmd, Element, Families, Point, Sequence};
 
 /// A use by a family of what another one owned.

@@ -1,6 +1,6 @@
 use crate::cases::{Candidates, Case, place_of};
+use crate::edits::Change;
 use std::alloc::AllocError;
-use vk_edits::Change;
 use vk_model::{Accesses, Action, Cmd, Dependency, Element, SemaphoreSubmit, Sequence, Stages};
 
 /// The bits of accesses of transfers.

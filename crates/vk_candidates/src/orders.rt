@@ -1,6 +1,7 @@
 use crate::cases::Case;
+use crate::edits::Change;
+use crate::lists::EditList;
 use std::alloc::AllocError;
-use vk_edits::{Change, EditList};
 use vk_model::{Action, Entry, Point, SemaphoreSubmit, SemaphoreValue, Stages};
 
 /// What orders the refused point after earlier ones.

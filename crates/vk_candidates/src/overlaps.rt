@@ -1,7 +1,7 @@
 use crate::cases::{Candidates, Case, place_of};
+use crate::edits::InBatch;
 use crate::hazards::barrier;
 use std::alloc::AllocError;
-use vk_edits::InBatch;
 use vk_model::{Accesses, Action, Cmd, Dependency, Duplicate, Length, Sequence, Stages};
 
 /// A command is taken apart into at most so many.
@@ -142,7 +142,7 @@ fn only<T: Copy + Drop>(
     Ok(Sequence::new(all))
 }
 
-/// Fills that write whole words.
+/// Fills that write whole words, also before the first byte and after the last one.
 pub fn align(case: &Case<'_>, found: &mut Candidates) -> Result<(), AllocError> {
     let Action::Run(
         Cmd::Fill {
@@ -173,5 +173,5 @@ pub fn align(case: &Case<'_>, found: &mut Candidates) -> Result<(), AllocError> 
             word: *word,
         },
     )?;
-    found.add(edits)
+    found.add_weaker(edits)
 }

@@ -1,6 +1,7 @@
 use crate::cases::{Case, place_of};
+use crate::edits::Change;
+use crate::lists::EditList;
 use std::alloc::AllocError;
-use vk_edits::{Change, EditList};
 use vk_model::{
     Action, BufferElement, Cmd, Duplicate, Element, Entry, ImageElement, SemaphoreSubmit, Sequence,
 };

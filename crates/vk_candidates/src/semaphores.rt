@@ -1,6 +1,6 @@
 use crate::cases::{Candidates, Case, place_of};
+use crate::edits::Change;
 use std::alloc::AllocError;
-use vk_edits::Change;
 use vk_model::{Action, Entry, Point, SemaphoreSubmit, SemaphoreValue, Sequence, Stages};
 
 /// The greatest value that a semaphore has had before the refused point.

@@ -1,8 +1,9 @@
 use crate::cases::{Candidates, Case, place_of};
+use crate::edits::{Change, InBatch};
+use crate::lists::EditList;
 use crate::orders::covering;
 use crate::uses::Use;
 use std::alloc::AllocError;
-use vk_edits::{Change, EditList, InBatch};
 use vk_model::{Action, Point};
 
 /// The waits of the point's batch cover all commands, or the first signal after each earlier command

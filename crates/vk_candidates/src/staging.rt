@@ -1,10 +1,10 @@
 use crate::cases::{Candidates, Case, place_of};
+use crate::edits::InBatch;
 use crate::hazards::barrier;
 use crate::overlaps::{MOST, part, parts};
 use crate::reaches::TEXEL;
 use crate::rows::{Rows, rows_of, texel_bytes};
 use std::alloc::AllocError;
-use vk_edits::InBatch;
 use vk_model::{
     Accesses, Action, BufferCopy, BufferImageCopy, BufferInfo, Cmd, Dependency, Duplicate, Entry,
     ImageCopy, Layout, Place, Sequence, Sharing, Stages, Usage,

@@ -1,9 +1,9 @@
 use crate::cases::{Candidates, Case};
 use crate::ids::Kind;
+use crate::lists::EditList;
 use crate::reaches::{Extent, extent_of, reach_of, room_in};
 use crate::renaming::{Renaming, rename};
 use std::alloc::AllocError;
-use vk_edits::EditList;
 use vk_model::{
     Action, BufferInfo, Entry, Format, ImageInfo, Kind as Tiling, MemoryInfo, Place, PoolInfo,
     PoolKind, Sharing, Usage,

@@ -1,8 +1,9 @@
 use crate::cases::{Candidates, Case};
+use crate::edits::Change;
+use crate::lists::EditList;
 use crate::orders::covering;
 use crate::semaphores::{host_wait, last_value};
 use std::alloc::AllocError;
-use vk_edits::{Change, EditList};
 use vk_model::{Action, Batch, Duplicate, Entry, Point, SemaphoreValue, Sequence};
 
 /// Repairs of a wait that is never met: what signals later comes before, the host signals what
@@ -15,6 +16,7 @@ pub fn wait_never(case: &Case<'_>, found: &mut Candidates) -> Result<(), AllocEr
     let held = held(case)?;
     with_later_signals(case, unmet.as_slice(), found)?;
     with_later_signals(case, held.as_slice(), found)?;
+    in_other_order(case, held.as_slice(), found)?;
     for wait in held.as_slice() {
         let mut edits = case.edits();
         signal_for(case, &mut edits, *wait, false)?;
@@ -23,10 +25,11 @@ pub fn wait_never(case: &Case<'_>, found: &mut Candidates) -> Result<(), AllocEr
     with_signals(case, held.as_slice(), &[], false, found)?;
     with_signals(case, held.as_slice(), &[], true, found)?;
     with_batch_signals(case, unmet.as_slice(), found)?;
-    with_signals(case, &[], unmet.as_slice(), false, found)?;
-    with_signals(case, &[], unmet.as_slice(), true, found)?;
-    with_signals(case, held.as_slice(), unmet.as_slice(), false, found)?;
-    with_signals(case, held.as_slice(), unmet.as_slice(), true, found)?;
+    for held in [&[], held.as_slice()] {
+        for is_after in [false, true] {
+            with_signals(case, held, unmet.as_slice(), is_after, found)?;
+        }
+    }
     with_counters(case, waits.as_slice(), found)
 }
 
@@ -115,6 +118,61 @@ pub fn signal_earlier(
     Ok(())
 }
 
+/// Where a batch waits for what a submit after it signals, that submit comes before it: in one queue
+/// neither could be started.
+fn in_other_order(
+    case: &Case<'_>,
+    held: &[SemaphoreValue],
+    found: &mut Candidates,
+) -> Result<(), AllocError> {
+    for wait in held {
+        let Some(waiting) = first_waiting(case, *wait) else {
+            continue;
+        };
+        for (number, entry) in case.trace.iter().enumerate() {
+            let is_between = waiting < number && number < case.refused.entry;
+            if is_between && gives(entry, wait.semaphore, wait.value) {
+                let mut edits = case.edits();
+                edits.insert(waiting, entry.duplicate()?)?;
+                edits.remove(number)?;
+                found.add(edits)?;
+            }
+        }
+    }
+    Ok(())
+}
+
+/// The first submit with a batch that waits for a value or more.
+fn first_waiting(case: &Case<'_>, wait: SemaphoreValue) -> Option<usize> {
+    for (number, entry) in case.trace.iter().enumerate() {
+        if let Entry::Submit { batches, .. } = entry {
+            for batch in batches.as_slice() {
+                for other in batch.waits.as_slice() {
+                    if other.semaphore == wait.semaphore && other.value >= wait.value {
+                        return Some(number);
+                    }
+                }
+            }
+        }
+    }
+    None
+}
+
+/// Whether a submit before the refused point signals one of these values, so that the host would signal it
+/// in the place of a batch.
+fn is_submitted(case: &Case<'_>, waits: &[SemaphoreValue]) -> bool {
+    for (number, entry) in case.trace.iter().enumerate() {
+        if number < case.refused.entry && matches!(entry, Entry::Submit { .. }) {
+            for wait in waits {
+                if gives(entry, wait.semaphore, wait.value) {
+                    return true;
+                }
+            }
+        }
+    }
+    false
+}
+
 /// The first entry after the refused one that signals a value or more.
 fn first_giving(case: &Case<'_>, wait: SemaphoreValue) -> Option<usize> {
     for (number, entry) in case.trace.iter().enumerate() {
@@ -181,7 +239,8 @@ fn last_signaler<'a>(case: &Case<'a>, semaphore: u32) -> Option<Point<'a>> {
     last
 }
 
-/// The host signals these values; also each after a wait for the last value before.
+/// The host signals these values; also each after a wait for the last value before. Where a batch would
+/// signal what is waited for, it may then never be run.
 fn with_signals(
     case: &Case<'_>,
     held: &[SemaphoreValue],
@@ -196,7 +255,11 @@ fn with_signals(
     for wait in unmet {
         signal_for(case, &mut edits, *wait, is_after)?;
     }
-    found.add(edits)
+    if is_submitted(case, unmet) {
+        found.add_weaker(edits)
+    } else {
+        found.add(edits)
+    }
 }
 
 /// The host signals a value, also after a wait for the last one.

@@ -2,4 +2,3 @@ pub mod Joins
 pub mod Colouring
 pub mod Verdicts
 pub mod Refusals
-pub mod Measures

@@ -6,11 +6,12 @@ use Rattle.vk_model.specs.declared.rule.Rule.{Rule}
 use Rattle.vk_words.specs.Points.{kind_text, at_text, BeginsWith}
 use Rattle.vk_trace.specs.declared.printing.Outcome.TheVariants.{Refused}
 use Rattle.vk_trace.specs.Text.{lines_of}
-use Rattle.vk_facts.specs.declared.facts.Fact.{Fact}
-use Rattle.vk_facts.specs.Facts.{IsReportedOf}
-use Rattle.vk_links.specs.declared.links.Links.{Links}
+use Rattle.vk_hazards.specs.declared.facts.Fact.{Fact}
+use Rattle.vk_hazards.specs.Facts.{IsReportedOf}
+use Rattle.vk_hazards.specs.declared.links.Links.{Links}
 use Rattle.vk_fact_words.specs.FactText.{fact_line, fact_member}
-use Rattle.vk_fact_words.specs.LinksText.{AreLinksOf, links_line, links_member}
+use Rattle.vk_hazards.specs.Faults.{AreLinksOf}
+use Rattle.vk_fact_words.specs.LinksText.{links_line, links_member}
 use Rattle.vk_explain.specs.Explained.{rule_line, json_verdict, IsRefusalText, IsRefusalJson}
 use Rattle.vk_explain.proofs.Joins.{goes_on}
 

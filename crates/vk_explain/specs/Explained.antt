@@ -10,15 +10,16 @@ use Rattle.vk_words.specs.Sentences.{rule_sentence}
 use Rattle.vk_trace.specs.declared.printing.Outcome.TheVariants.{Refused as RefusedBy}
 use Rattle.vk_trace.specs.Trace.{IsTrace}
 use Rattle.vk_trace.specs.Text.{lines_of}
-use Rattle.vk_facts.specs.declared.facts.Fact.{Fact}
-use Rattle.vk_facts.specs.Facts.{IsReportedOf}
-use Rattle.vk_links.specs.declared.links.Links.{Links}
+use Rattle.vk_hazards.specs.declared.facts.Fact.{Fact}
+use Rattle.vk_hazards.specs.Facts.{IsReportedOf}
+use Rattle.vk_hazards.specs.declared.links.Links.{Links}
 use Rattle.vk_fact_words.specs.FactText.{fact_line, fact_member}
-use Rattle.vk_fact_words.specs.LinksText.{AreLinksOf, links_line, links_member}
+use Rattle.vk_hazards.specs.Faults.{AreLinksOf}
+use Rattle.vk_fact_words.specs.LinksText.{links_line, links_member}
 use Rattle.vk_explain.specs.declared.forms.Form.{Form}
 use Rattle.vk_explain.specs.declared.forms.Form.TheVariants.{Text, Json}
 use Rattle.vk_explain.specs.declared.forms.Wanted.{Wanted}
-use Rattle.vk_explain.specs.declared.forms.Wanted.TheVariants.{Explained, Repaired}
+use Rattle.vk_explain.specs.declared.forms.Wanted.TheVariants.{Explained, Repaired, ExplainedAndRepaired}
 use Rattle.vk_explain.specs.declared.explaining.Judgment.{Judgment}
 use Rattle.vk_explain.specs.declared.explaining.Judgment.TheVariants.{Accepted, Refused, NoTrace}
 
@@ -96,9 +97,10 @@ pub record IsJudgedTrace (text : List ℕ) (judgment : Judgment) : Type 0 where
   pub trace : IsTrace text entries
   pub judged : judgment ≡ judgment_of (first_fault entries)
 
--- What is asked of an input: an explanation; or a trace that was made of it, with the verdict on that one; or that the input is no trace.
+-- What is asked of an input: an explanation; or a trace that was made of it, with the verdict on that one; or that the input is no trace. An object with repairs begins as the one without, and what its last members say is promised by nothing.
 abbrev pub Answers : Wanted → List ℕ → List ℕ → Judgment → Type 0
 Answers (Explained form) input text judgment = Explains form input text judgment
 Answers Repaired input text NoTrace = MeansNothing input × IsMistakeText Text text
 Answers Repaired input text Accepted = IsJudgedTrace text Accepted
 Answers Repaired input text Refused = IsJudgedTrace text Refused
+Answers ExplainedAndRepaired input text judgment = Explains Json input text judgment

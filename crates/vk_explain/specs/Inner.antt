@@ -1,4 +1,3 @@
 -- What only the contracts within the crate cite.
 pub mod Coloured
 pub mod Repaired
-pub mod Measured

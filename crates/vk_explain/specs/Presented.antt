@@ -6,7 +6,7 @@ use Rattle.vk_calls.specs.CalledText.{IsCalled}
 use Rattle.vk_calls.specs.CalledObject.{IsListed}
 use Rattle.vk_explain.specs.declared.forms.Form.TheVariants.{Text, Json}
 use Rattle.vk_explain.specs.declared.forms.Wanted.{Wanted}
-use Rattle.vk_explain.specs.declared.forms.Wanted.TheVariants.{Explained, Repaired}
+use Rattle.vk_explain.specs.declared.forms.Wanted.TheVariants.{Explained, Repaired, ExplainedAndRepaired}
 use Rattle.vk_explain.specs.declared.explaining.Judgment.{Judgment}
 use Rattle.vk_explain.specs.declared.presentation.Presentation.{Presentation}
 use Rattle.vk_explain.specs.Colours.{IsColoured}
@@ -59,6 +59,7 @@ abbrev pub IsPresented : Wanted → Presentation → List ℕ → List ℕ → T
 IsPresented (Explained Text) d text shown = (called : List ℕ) × AreCalled (calls_of d) text called × AreShown d called shown
 IsPresented (Explained Json) d text shown = (called : List ℕ) × IsCalledObject (calls_of d) text called × IsNamed (name_of d) called shown
 IsPresented Repaired d text shown = shown ≡ text
+IsPresented ExplainedAndRepaired d text shown = (called : List ℕ) × IsCalledObject (calls_of d) text called × IsNamed (name_of d) called shown
 
 -- What is written is the answer to an input, as it is presented.
 abbrev pub IsAnswer : Wanted → Presentation → List ℕ → List ℕ → Judgment → Type 0

@@ -1,28 +1,28 @@
 ghost use Rattle.std.specs.Prelude.{◌≡◌, ◌↔◌, ◌⊎◌, ◌≤◌, ◌<◌, ◌+◌, ℕ, List, take, length, IfOk, IfErr, IfSome, IsTrue, string_bytes, false};
 ghost use Rattle.std.specs.Io.KnownBytes.{Appends, Keeps};
 ghost use Rattle.vk_model.specs.declared.entry.Entry.{Entry};
-ghost use Rattle.vk_model.specs.Trace.Order.{order};
+ghost use Rattle.std.specs.Option.{option_map};
 ghost use Rattle.vk_model.specs.Rules.Table.{first_fault};
 ghost use Rattle.vk_trace.specs.Trace.{IsTrace};
 ghost use Rattle.vk_trace.specs.Watching.{counted};
 ghost use Rattle.vk_trace.specs.Streams.{IsBeforeWriting, IsJudged};
 ghost use Rattle.vk_explain.specs.Presented.{IsAnswer};
+ghost use Rattle.vk_explain.specs.declared.forms.Form.TheVariants.{Json};
 ghost use Rattle.vk_explain.specs.Explained.{Answers, Explains, IsExplained, IsExplanation, judgment_of};
-ghost use Rattle.vk_explain.specs.Inner.Measured.{IsMeasuredAt};
+ghost use Rattle.vk_findings.specs.Reports.{IsReport, fault_in};
 
 use crate::forms::{Form, Wanted};
 use crate::json::{acceptance_json, refusal_json};
-use crate::mending::repaired_with;
+use crate::mending::{repaired_members, repaired_with};
 use crate::mistakes::no_trace;
 use crate::presentation::{Presentation, presented};
 use crate::reports::{acceptance_text, refusal_text};
 use std::alloc::{AllocError, Global};
 use std::io::{Read, Write};
-use vk_measures::{Measure, measure_of};
+use vk_findings::{Report, report_of};
 use vk_model::{At, Entry, Rule};
 use vk_queues::reference_order;
 use vk_trace::{ReadTraceError, RunError, Watched, read_all, read_trace, write_all};
-use vk_validate::refusal_of;
 
 /// The verdict on an input, without its fault.
 #[derive(Clone, Copy, Debug, PartialEq, Eq)]
@@ -127,7 +127,8 @@ fn said_of(
 {
     match wanted {
         Wanted::Explained(form) => explanation_of(alloc, input, form),
-        Wanted::Repaired => repaired_with(alloc, input, changes),
+        Wanted::Repaired => repaired_with(alloc, input, Form::Text, changes),
+        Wanted::ExplainedAndRepaired => explained_and_repaired(alloc, input),
     }
 }
 
@@ -136,8 +137,29 @@ fn said_of(
 pub fn explanation_of(alloc: Global, input: &[u8], form: Form) -> Result<Explanation, AllocError>
     ensures { IfOk result (λ e. Explains form input.now (string_bytes e.text) e.judgment) }
 {
+    explanation_with(alloc, input, form, "")
+}
+
+/// The object on the bytes of an input, as `explanation_of` has it, with each repair of the trace and the
+/// trace as it is after them. The verdict is that on the given trace. The only error is want of memory.
+pub fn explained_and_repaired(alloc: Global, input: &[u8]) -> Result<Explanation, AllocError>
+    ensures { IfOk result (λ e. Explains Json input.now (string_bytes e.text) e.judgment) }
+{
+    let members = repaired_members(alloc, input)?;
+    explanation_with(alloc, input, Form::Json, members.as_str())
+}
+
+/// What is said of the bytes of an input; these members are the last ones of an object on a trace.
+fn explanation_with(
+    alloc: Global,
+    input: &[u8],
+    form: Form,
+    members: &str,
+) -> Result<Explanation, AllocError>
+    ensures { IfOk result (λ e. Explains form input.now (string_bytes e.text) e.judgment) }
+{
     match read_trace(alloc, input) {
-        Ok(trace) => explained(alloc, input, trace.as_slice(), form),
+        Ok(trace) => explained(alloc, input, trace.as_slice(), form, members),
         Err(ReadTraceError::NotTrace) => no_trace(alloc, input, form),
         Err(ReadTraceError::NoMemory) => Err(AllocError),
     }
@@ -149,42 +171,25 @@ fn explained(
     input: &[u8],
     trace: &[Entry],
     form: Form,
+    members: &str,
 ) -> Result<Explanation, AllocError>
     requires { IsTrace input.now trace.now }
     ensures { IfOk result (λ e. Explains form input.now (string_bytes e.text) e.judgment) }
 {
-    let told = told_of(alloc, trace)?;
-    let text = text_of(alloc, input, trace, told.fault, told.measure, form)?;
-    let judgment = judgment_by(told.fault);
+    let points = reference_order(alloc, trace)?;
+    let report = report_of(alloc, trace, points.as_slice())?;
+    let text = text_of(alloc, input, trace, &report, form, members)?;
+    let judgment = judgment_by(fault_of(&report));
     Ok(Explanation { judgment, text })
 }
 
-/// The first fault of a trace, and what its rule compares.
-#[derive(Clone, Copy)]
-struct Told {
-    /// The first fault, where there is one.
-    fault: Option<(At, Rule)>,
-    /// What the rule compares at the point that breaks it, where that is reported.
-    measure: Option<Measure>,
-}
-
-/// The first fault of a trace, and what its rule compares there, by the history that the point was
-/// judged by.
-fn told_of(alloc: Global, trace: &[Entry]) -> Result<Told, AllocError>
-    ensures fault { IfOk result (λ told. told.fault ≡ first_fault trace.now) }
-    ensures measured { IfOk result (λ told. IfSome told.fault (λ fault. IsMeasuredAt (order trace.now) fault.0 fault.1 told.measure)) }
+/// The fault that is reported, where there is one.
+fn fault_of(report: &Option<Report<'_>>) -> Option<(At, Rule)>
+    ensures { result ≡ option_map fault_in report.now }
 {
-    let points = reference_order(alloc, trace)?;
-    match refusal_of(alloc, points.as_slice())? {
-        Some(refusal) => {
-            let measure = measure_of(&refusal.history, &refusal.point, refusal.rule);
-            let fault = Some((refusal.at, refusal.rule));
-            Ok(Told { fault, measure })
-        }
-        None => Ok(Told {
-            fault: None,
-            measure: None,
-        }),
+    match report {
+        Some(report) => Some((report.at, report.rule)),
+        None => None,
     }
 }
 
@@ -198,22 +203,23 @@ pub fn judgment_by(fault: Option<(At, Rule)>) -> Judgment
     }
 }
 
-/// The text on a trace, by its first fault and what that one's rule compares.
+/// The text on a trace, by what is reported of its first fault.
 fn text_of(
     alloc: Global,
     input: &[u8],
     trace: &[Entry],
-    fault: Option<(At, Rule)>,
-    measure: Option<Measure>,
+    report: &Option<Report<'_>>,
     form: Form,
+    members: &str,
 ) -> Result<String, AllocError>
-    requires { fault ≡ first_fault trace.now }
-    ensures { IfOk result (λ text. IsExplanation form trace.now fault (string_bytes text)) }
+    requires exact { option_map fault_in report.now ≡ first_fault trace.now }
+    requires so { IfSome report.now (IsReport trace.now) }
+    ensures { IfOk result (λ text. IsExplanation form trace.now (option_map fault_in report.now) (string_bytes text)) }
 {
-    match (fault, form) {
+    match (report, form) {
         (None, Form::Text) => acceptance_text(alloc, trace),
-        (None, Form::Json) => acceptance_json(alloc, trace),
-        (Some((at, rule)), Form::Text) => refusal_text(alloc, input, trace, at, rule, measure),
-        (Some((at, rule)), Form::Json) => refusal_json(alloc, input, trace, at, rule, measure),
+        (None, Form::Json) => acceptance_json(alloc, trace, members),
+        (Some(report), Form::Text) => refusal_text(alloc, input, trace, report),
+        (Some(report), Form::Json) => refusal_json(alloc, input, trace, report, members),
     }
 }

@@ -14,4 +14,6 @@ pub enum Wanted {
     Explained(Form),
     /// The trace as it is after repairs, alone.
     Repaired,
+    /// That it is explained as an object, which has each repair and the trace as it is after them.
+    ExplainedAndRepaired,
 }

@@ -2,62 +2,65 @@ ghost use Rattle.std.specs.Prelude.{◌≡◌, ◌++◌, codes, IfOk, Some, stri
 ghost use Rattle.vk_model.specs.Rules.Table.{first_fault};
 ghost use Rattle.vk_fact_words.specs.FactText.{fact_member as text_of_fact};
 ghost use Rattle.vk_fact_words.specs.LinksText.{links_member as text_of_links};
+ghost use Rattle.vk_findings.specs.Reports.{IsReport};
 ghost use Rattle.vk_explain.specs.Explained.{json_verdict, IsRefusalJson, IsAcceptanceJson};
 
 use crate::identifiers::push_identifier_members;
-use crate::places::{place_of, push_pointer};
 use crate::repairs::{EditWords, RepairSearch, RepairWords, sought, words_of};
 use std::alloc::{AllocError, Global};
 use vk_fact_words::{
-    cause_member, either_way_member, fact_member, links_member, links_of_fact, measure_member,
-    points_named, push_quoted, state_member,
+    cause_member, either_way_member, fact_member, finding_member, links_member, points_named,
+    push_quoted, values_member,
 };
-use vk_facts::{Fact, fact_of_fault};
+use vk_findings::Report;
+use vk_hazards::{Fact, Links};
 use vk_identifiers::is_unknown_here;
-use vk_links::Links;
-use vk_measures::Measure;
+use vk_mistakes::{place_of, push_pointer};
 use vk_model::{At, Entry, Rule};
 use vk_notes::{Summary, note_words, notes_of, summary_of};
 use vk_words::{point_words, push_at, sentence};
 
 /// The object on a refused trace: verdict, point, rule, the fact that is reported of it, the
-/// point's place in the input and in words, what the rule says, and what it compares there.
+/// point's place in the input and in words, what the rule says, and what it finds there; and last these
+/// members.
 pub fn refusal_json(
     alloc: Global,
     input: &[u8],
     trace: &[Entry],
-    at: At,
-    rule: Rule,
-    measure: Option<Measure>,
+    report: &Report<'_>,
+    last: &str,
 ) -> Result<String, AllocError>
-    requires { first_fault trace.now ≡ Some (at, rule) }
-    ensures { IfOk result (λ text. IsRefusalJson trace.now at rule (string_bytes text)) }
+    requires fault { first_fault trace.now ≡ Some (report.now.at, report.now.rule) }
+    requires so { IsReport trace.now report.now }
+    ensures { IfOk result (λ text. IsRefusalJson trace.now report.now.at report.now.rule (string_bytes text)) }
 {
-    let fact = fact_of_fault(alloc, trace, at, rule)?;
-    let links = links_of_fact(alloc, trace, at, rule, &fact)?;
-    let mut text = first_members(alloc, at, rule, &fact, &links)?;
-    let members = later_members(alloc, input, trace, (at, rule), measure, &fact)?;
+    let mut text = first_members(alloc, report.at, report.rule, &report.fact, &report.links)?;
+    let mut members = later_members(alloc, input, trace, report)?;
+    push_end(&mut members, last)?;
     text.push_str(members.as_str())?;
     Ok(text)
 }
 
-/// The members behind the fact and its links, and the end of the object.
+/// Adds the last members, and the end of the object.
+fn push_end(members: &mut String, last: &str) -> Result<(), AllocError> {
+    members.push_str(last)?;
+    members.push_str("}\n")
+}
+
+/// The members behind the fact and its links.
 fn later_members(
     alloc: Global,
     input: &[u8],
     trace: &[Entry],
-    fault: (At, Rule),
-    measure: Option<Measure>,
-    fact: &Option<Fact<'_>>,
+    report: &Report<'_>,
 ) -> Result<String, AllocError>
-    requires { first_fault trace.now ≡ Some fault }
+    requires { first_fault trace.now ≡ Some (report.now.at, report.now.rule) }
 {
-    let points = points_named(alloc, fact)?;
+    let points = points_named(alloc, &report.fact)?;
     let mut members = named_members(alloc, input, trace, points.as_slice())?;
-    let either_way = either_way_member(alloc, fact)?;
+    let either_way = either_way_member(alloc, &report.fact)?;
     members.push_str(either_way.as_str())?;
-    let (at, rule) = fault;
-    let others = point_members(alloc, input, trace, at, rule, measure)?;
+    let others = point_members(alloc, input, trace, report)?;
     members.push_str(others.as_str())?;
     Ok(members)
 }
@@ -145,26 +148,26 @@ fn verdict_members(alloc: Global, at: At, rule: Rule) -> Result<String, AllocErr
     Ok(text)
 }
 
-/// The members that say more of the point and its rule, and the end of the object.
+/// The members that say more of the point and its rule.
 fn point_members(
     alloc: Global,
     input: &[u8],
     trace: &[Entry],
-    at: At,
-    rule: Rule,
-    measure: Option<Measure>,
+    report: &Report<'_>,
 ) -> Result<String, AllocError>
-    requires { first_fault trace.now ≡ Some (at, rule) }
+    requires { first_fault trace.now ≡ Some (report.now.at, report.now.rule) }
 {
+    let at = report.at;
+    let rule = report.rule;
     let mut members = String::new(alloc);
     push_place(&mut members, input, at)?;
     push_identifier_members(alloc, &mut members, trace, at, rule)?;
-    let compared = measure_member(alloc, measure)?;
-    members.push_str(compared.as_str())?;
-    let state = state_member(alloc, trace, at, rule)?;
-    members.push_str(state.as_str())?;
-    let cause = cause_member(alloc, trace, at, rule)?;
+    let found = finding_member(alloc, &report.finding)?;
+    members.push_str(found.as_str())?;
+    let cause = cause_member(alloc, trace, &report.cause)?;
     members.push_str(cause.as_str())?;
+    let values = values_member(alloc, input, report)?;
+    members.push_str(values.as_str())?;
     members.push_str(",\"point\":")?;
     let words = point_words(alloc, trace, at)?;
     push_quoted(alloc, &mut members, words)?;
@@ -173,7 +176,6 @@ fn point_members(
     push_quoted(alloc, &mut members, said)?;
     push_repair(alloc, &mut members, trace, at, rule)?;
     push_notes(alloc, &mut members, trace)?;
-    members.push_str("}\n")?;
     Ok(members)
 }
 
@@ -194,13 +196,42 @@ fn push_repair(
     let RepairSearch::Found(found) = found else {
         return members.push_str(",\"repair\":null");
     };
+    let words = words_of(alloc, trace, &found)?;
+    members.push_str(",\"repair\":{")?;
+    push_repair_members(alloc, members, words)?;
+    members.push_str("}")
+}
+
+/// Adds the object on a repair that is one of several, with the fault that it's for.
+pub(crate) fn push_repair_of(
+    alloc: Global,
+    out: &mut String,
+    at: At,
+    rule: Rule,
+    words: RepairWords,
+) -> Result<(), AllocError> {
+    out.push_str("{\"at\":\"")?;
+    push_at(out, at)?;
+    out.push_str("\",\"rule\":\"")?;
+    out.push_str(rule.name())?;
+    out.push_str("\",")?;
+    push_repair_members(alloc, out, words)?;
+    out.push_str("}")
+}
+
+/// Adds the members on a repair.
+fn push_repair_members(
+    alloc: Global,
+    members: &mut String,
+    words: RepairWords,
+) -> Result<(), AllocError> {
     let RepairWords {
         then,
         weaker,
         stands_in,
         edits,
-    } = words_of(alloc, trace, &found)?;
-    members.push_str(",\"repair\":{\"then\":")?;
+    } = words;
+    members.push_str("\"then\":")?;
     push_quoted(alloc, members, then)?;
     write!(members, ",\"weaker\":{weaker},\"stands_in\":{stands_in}")?;
     members.push_str(",\"edits\":[")?;
@@ -210,7 +241,7 @@ fn push_repair(
         }
         push_edit(alloc, members, edit)?;
     }
-    members.push_str("]}")
+    members.push_str("]")
 }
 
 /// The object on an edit: an operation of JSON Patch with its path, the point, what is done in words,
@@ -255,18 +286,19 @@ fn push_notes(alloc: Global, members: &mut String, trace: &[Entry]) -> Result<()
     members.push_str("]")
 }
 
-/// The object on an accepted trace: verdict, and what the trace has.
-pub fn acceptance_json(alloc: Global, trace: &[Entry]) -> Result<String, AllocError>
+/// The object on an accepted trace: verdict, and what the trace has; and last these members.
+pub fn acceptance_json(alloc: Global, trace: &[Entry], last: &str) -> Result<String, AllocError>
     ensures { IfOk result (λ text. IsAcceptanceJson (string_bytes text)) }
 {
     let mut text = String::from_str(alloc, "{\"verdict\":\"accepted\"")?;
     let summary = summary_of(alloc, trace)?;
-    let members = summary_members(alloc, trace, &summary)?;
+    let mut members = summary_members(alloc, trace, &summary)?;
+    push_end(&mut members, last)?;
     text.push_str(members.as_str())?;
     Ok(text)
 }
 
-/// The members that say what the trace has, and the end of the object.
+/// The members that say what the trace has.
 fn summary_members(
     alloc: Global,
     trace: &[Entry],
@@ -295,7 +327,6 @@ fn summary_members(
     let bytes = summary.read_bytes;
     write!(members, "],\"read_bytes\":{bytes}")?;
     push_notes(alloc, &mut members, trace)?;
-    members.push_str("}\n")?;
     Ok(members)
 }
 

@@ -10,13 +10,12 @@ mod listing;
 mod mending;
 mod mistakes;
 mod patching;
-mod places;
 mod presentation;
 mod repairs;
 mod reports;
 
-pub use explaining::{Explanation, Judgment, explanation_of, run};
+pub use explaining::{Explanation, Judgment, explained_and_repaired, explanation_of, run};
 pub use forms::{Form, Wanted};
 pub use mending::repaired_of;
-pub use places::{InputPlace, line_and_column, place_of};
 pub use presentation::Presentation;
+pub use vk_mistakes::{InputPlace, line_and_column, place_of};

@@ -2,7 +2,7 @@ ghost use Rattle.std.specs.Prelude.{◌<◌, length};
 
 use std::alloc::{AllocError, Global};
 use std::collections::BTreeMap;
-use vk_edits::{Edit, InBatch, Member, moved};
+use vk_candidates::{Edit, InBatch, Member, moved};
 use vk_model::At;
 
 /// An edit of a repair, in the order in which edits are listed.

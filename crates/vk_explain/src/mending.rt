@@ -6,6 +6,7 @@ ghost use Rattle.vk_explain.specs.declared.forms.Wanted.TheVariants.{Repaired};
 
 use crate::explaining::{Explanation, Judgment, judgment_by};
 use crate::forms::Form;
+use crate::json::push_repair_of;
 use crate::mistakes::no_trace;
 use crate::patching::patched;
 use crate::repairs::{
@@ -29,19 +30,45 @@ const MOST_REPAIRS: usize = 25;
 pub fn repaired_of(alloc: Global, input: &[u8]) -> Result<Explanation, AllocError>
     ensures { IfOk result (λ e. Answers Repaired input.now (string_bytes e.text) e.judgment) }
 {
-    repaired_with(alloc, input, &mut String::new(alloc))
+    repaired_with(alloc, input, Form::Text, &mut String::new(alloc))
 }
 
-/// The same; the lines on each repair are added to `changes`.
+/// The members with each repair of the trace in the bytes of an input, and with the trace as it is after
+/// them, without spaces; nothing where the input is no trace.
+pub(crate) fn repaired_members(alloc: Global, input: &[u8]) -> Result<String, AllocError> {
+    let mut repairs = String::new(alloc);
+    let repaired = repaired_with(alloc, input, Form::Json, &mut repairs)?;
+    let mut members = String::new(alloc);
+    let verdict = match repaired.judgment {
+        Judgment::Accepted => "accepted",
+        Judgment::Refused => "refused",
+        Judgment::NoTrace => return Ok(members),
+    };
+    members.push_str(",\"repairs\":[")?;
+    members.push_str(repairs.as_str())?;
+    members.push_str("],\"repaired\":{\"verdict\":\"")?;
+    members.push_str(verdict)?;
+    members.push_str("\",\"trace\":")?;
+    // No word of a trace has spaces.
+    for part in repaired.text.as_str().split_ascii_whitespace() {
+        members.push_str(part)?;
+    }
+    members.push_str("}")?;
+    Ok(members)
+}
+
+/// The trace in the bytes of an input as it is after repairs, as `repaired_of` has it; what is said of each
+/// repair is added to `changes`, as lines or as objects with commas between them.
 pub(crate) fn repaired_with(
     alloc: Global,
     input: &[u8],
+    form: Form,
     changes: &mut String,
 ) -> Result<Explanation, AllocError>
     ensures { IfOk result (λ e. Answers Repaired input.now (string_bytes e.text) e.judgment) }
 {
     match read_trace(alloc, input) {
-        Ok(trace) => mended(alloc, input, trace, changes),
+        Ok(trace) => mended(alloc, input, trace, form, changes),
         Err(ReadTraceError::NotTrace) => no_trace(alloc, input, Form::Text),
         Err(ReadTraceError::NoMemory) => Err(AllocError),
     }
@@ -52,6 +79,7 @@ fn mended(
     alloc: Global,
     input: &[u8],
     trace: Vec<Entry>,
+    form: Form,
     changes: &mut String,
 ) -> Result<Explanation, AllocError>
     requires { IsTrace input.now trace.items }
@@ -59,7 +87,8 @@ fn mended(
 {
     let fault = fault_of(alloc, trace.as_slice())?;
     let given = unchanged(alloc, input, trace.as_slice(), fault)?;
-    let Some(text) = after_repairs(alloc, input, trace, fault, changes)? else {
+    let mending = Mending::of(alloc, input, form, changes)?;
+    let Some(text) = after_repairs(alloc, trace, fault, mending)? else {
         return Ok(given);
     };
     match judged(alloc, text.as_bytes())? {
@@ -145,7 +174,7 @@ impl Faulted {
         match sought(alloc, self.trace.as_slice(), at, rule)? {
             RepairSearch::Found(found) => {
                 let words = words_of(alloc, self.trace.as_slice(), &found)?;
-                mending.push_repair(alloc, &words, found.next)?;
+                mending.push_repair(alloc, (at, rule), words, found.next)?;
                 let Repair {
                     edits: _,
                     changed,
@@ -159,12 +188,12 @@ impl Faulted {
                 }))
             }
             RepairSearch::Nothing => {
-                mending.changes.push_str(NONE_FOUND)?;
+                mending.push_line(NONE_FOUND)?;
                 Ok(None)
             }
             RepairSearch::TooLarge => {
                 let line = none_sought(alloc)?;
-                mending.changes.push_str(line.as_str())?;
+                mending.push_line(line.as_str())?;
                 Ok(None)
             }
         }
@@ -174,17 +203,49 @@ impl Faulted {
 /// What is told of repairs, and the text that they make of an input.
 #[derive(Drop)]
 struct Mending<'a> {
-    /// The lines on each repair.
+    /// The lines on each repair, or the objects, with commas between them.
     changes: &'a mut String,
+    /// Which of the two.
+    form: Form,
     /// Whether there was a repair.
     is_changed: bool,
     /// The text after the repairs so far; none where one of them has no place in it.
     text: Option<Vec<u8>>,
 }
 
+impl<'a> Mending<'a> {
+    /// Before the first repair of an input.
+    fn of(
+        alloc: Global,
+        input: &[u8],
+        form: Form,
+        changes: &'a mut String,
+    ) -> Result<Mending<'a>, AllocError> {
+        let mut text = Vec::new(alloc);
+        text.extend_from_slice(input)?;
+        Ok(Mending {
+            changes,
+            form,
+            is_changed: false,
+            text: Some(text),
+        })
+    }
+}
+
 impl Mending<'_> {
+    /// Adds a line, where lines are told.
+    fn push_line(&mut self, line: &str) -> Result<(), AllocError> {
+        match self.form {
+            Form::Text => self.changes.push_str(line),
+            Form::Json => Ok(()),
+        }
+    }
+
     /// The line on the fault that a repair is sought for.
     fn push_fault(&mut self, at: At, rule: Rule) -> Result<(), AllocError> {
+        if self.form == Form::Json {
+            return Ok(());
+        }
         self.changes.push_str("refused ")?;
         push_at(self.changes, at)?;
         self.changes.push_str(" ")?;
@@ -192,21 +253,34 @@ impl Mending<'_> {
         self.changes.push_str("\n")
     }
 
-    /// The lines on a repair, after which this is the first fault, and the text with its edits.
+    /// What is said of a repair of a fault, after which another one is the first, and the text with its
+    /// edits.
     fn push_repair(
         &mut self,
         alloc: Global,
-        words: &RepairWords,
+        fault: (At, Rule),
+        words: RepairWords,
         next: Option<(At, Rule)>,
     ) -> Result<(), AllocError> {
-        let lines = lines_of(alloc, words, next)?;
-        self.changes.push_str(lines.as_str())?;
-        self.is_changed = true;
         for edit in &words.edits {
             if let Some(text) = self.text.take() {
                 self.text = patched(alloc, text.as_slice(), edit)?;
             }
         }
+        match self.form {
+            Form::Text => {
+                let lines = lines_of(alloc, &words, next)?;
+                self.changes.push_str(lines.as_str())?;
+            }
+            Form::Json => {
+                if self.is_changed {
+                    self.changes.push_str(",")?;
+                }
+                let (at, rule) = fault;
+                push_repair_of(alloc, self.changes, at, rule, words)?;
+            }
+        }
+        self.is_changed = true;
         Ok(())
     }
 }
@@ -214,20 +288,13 @@ impl Mending<'_> {
 /// The text of a trace after as many repairs as are found; none where there is none.
 fn after_repairs(
     alloc: Global,
-    input: &[u8],
     trace: Vec<Entry>,
     fault: Option<(At, Rule)>,
-    changes: &mut String,
+    mending: Mending<'_>,
 ) -> Result<Option<String>, AllocError>
     requires { fault ≡ first_fault trace.items }
 {
-    let mut text = Vec::new(alloc);
-    text.extend_from_slice(input)?;
-    let mut mending = Mending {
-        changes,
-        is_changed: false,
-        text: Some(text),
-    };
+    let mut mending = mending;
     let mut faulted = Faulted { trace, fault };
     for _ in 0..MOST_REPAIRS {
         match faulted.next(alloc, &mut mending)? {

@@ -6,10 +6,11 @@ ghost use Rattle.vk_explain.specs.Explained.{Explains, IsMistakeText};
 
 use crate::explaining::{Explanation, Judgment};
 use crate::forms::Form;
-use crate::places::{InputPlace, line_and_column, place_of_member};
 use std::alloc::{AllocError, Global};
 use vk_fact_words::push_quoted;
-use vk_mistakes::{Mistake, MistakePlace, mistake_of};
+use vk_mistakes::{
+    InputPlace, Mistake, MistakePlace, line_and_column, mistake_of, place_of_member,
+};
 
 /// What is said of an input that is no trace.
 pub fn no_trace(alloc: Global, input: &[u8], form: Form) -> Result<Explanation, AllocError>

@@ -1,8 +1,8 @@
 ghost use Rattle.std.specs.Prelude.{◌≤◌};
 
-use crate::places::{end_of, start_of};
 use crate::repairs::EditWords;
 use std::alloc::{AllocError, Global};
+use vk_mistakes::{end_of, start_of};
 use vk_model::At;
 
 /// The text of a trace after one edit; what the edit doesn't touch is kept as it is written. None where

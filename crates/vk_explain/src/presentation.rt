@@ -40,7 +40,9 @@ pub fn presented(
 {
     match wanted {
         Wanted::Explained(Form::Text) => with_heading(alloc, text, presentation),
-        Wanted::Explained(Form::Json) => as_object(alloc, text, presentation),
+        Wanted::Explained(Form::Json) | Wanted::ExplainedAndRepaired => {
+            as_object(alloc, text, presentation)
+        }
         Wanted::Repaired => text.to_vec(alloc),
     }
 }

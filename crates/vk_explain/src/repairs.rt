@@ -4,9 +4,9 @@ ghost use Rattle.vk_explain.specs.Inner.Repaired.{IsSought};
 
 use crate::listing::{Listed, in_listed_order};
 use std::alloc::{AllocError, Global};
-use vk_edits::{Change, Edit, Member};
+use vk_candidates::{Change, Edit, InBatch, Member};
 use vk_identifiers::is_unknown_here;
-use vk_model::{At, Entry, Rule};
+use vk_model::{At, BufferImageCopy, Cmd, Entry, Rule};
 use vk_notes::summary_of;
 use vk_repairs::{Repair, repair};
 use vk_words::{point_words, push_at};
@@ -48,7 +48,7 @@ pub struct EditWords {
 pub struct RepairWords {
     /// What the rules say of the changed trace.
     pub then: String,
-    /// Whether that asks for less than the given trace did.
+    /// Whether that asks for less than the given trace did, or for other bytes.
     pub weaker: bool,
     /// Whether it has data that stand in for what the given trace lacks.
     pub stands_in: bool,
@@ -141,7 +141,7 @@ fn repair_name(words: &RepairWords) -> &'static str {
     if words.stands_in {
         "  repair with zeros or objects that stand in for what the trace lacks"
     } else if words.weaker {
-        "  weaker repair, after which the trace asks for less"
+        "  weaker repair, which changes what the trace asks for"
     } else {
         "  repair"
     }
@@ -184,12 +184,59 @@ pub fn words_of(alloc: Global, trace: &[Entry], found: &Repair) -> Result<Repair
             value,
         })?;
     }
+    let is_elsewhere = found
+        .edits
+        .as_slice()
+        .iter()
+        .any(|edit| names_other_rows(trace, edit));
     Ok(RepairWords {
         then,
-        weaker: found.weaker,
+        weaker: found.weaker || is_elsewhere,
         stands_in: found.stands_in,
         edits,
     })
+}
+
+/// Whether an edit replaces a copy between a buffer and an image by one with other rows of the buffer.
+fn names_other_rows(trace: &[Entry], edit: &Edit) -> bool {
+    let Edit::Member {
+        change: Change::Replace,
+        at,
+        member: Member::Command(command),
+    } = edit
+    else {
+        return false;
+    };
+    match (command_at(trace, *at), command) {
+        (Some(Cmd::CopyIn { regions: given, .. }), Cmd::CopyIn { regions, .. }) => {
+            are_other_rows(given.as_slice(), regions.as_slice())
+        }
+        (Some(Cmd::CopyOut { regions: given, .. }), Cmd::CopyOut { regions, .. }) => {
+            are_other_rows(given.as_slice(), regions.as_slice())
+        }
+        _ => false,
+    }
+}
+
+/// The command at a place of a batch.
+fn command_at(trace: &[Entry], at: InBatch) -> Option<&Cmd> {
+    let Entry::Submit { batches, .. } = trace.get(at.entry)? else {
+        return None;
+    };
+    batches
+        .as_slice()
+        .get(at.batch)?
+        .commands
+        .as_slice()
+        .get(at.place)
+}
+
+/// Whether regions have other row lengths or image heights, one for one.
+fn are_other_rows(given: &[BufferImageCopy], regions: &[BufferImageCopy]) -> bool {
+    given.len() == regions.len()
+        && given.iter().zip(regions).any(|(one, other)| {
+            one.row_length != other.row_length || one.image_height != other.image_height
+        })
 }
 
 /// That a trace is accepted, or its first fault.

@@ -3,47 +3,43 @@ ghost use Rattle.vk_model.specs.Rules.Table.{first_fault};
 ghost use Rattle.vk_words.specs.Points.{kind_text, at_text, BeginsWith};
 ghost use Rattle.vk_fact_words.specs.FactText.{fact_line as text_of_fact};
 ghost use Rattle.vk_fact_words.specs.LinksText.{links_line as text_of_links};
+ghost use Rattle.vk_findings.specs.Reports.{IsReport};
 ghost use Rattle.vk_explain.specs.Explained.{rule_line, IsRefusalText, IsAcceptanceText};
 
 use crate::identifiers::identifier_lines;
-use crate::places::place_of;
 use crate::repairs::repair_lines;
 use std::alloc::{AllocError, Global};
 use vk_fact_words::{
-    cause_lines, either_way_line, fact_line, links_line, links_of_fact, measure_line, points_named,
-    state_line,
+    cause_lines, either_way_line, fact_line, finding_line, links_line, points_named,
 };
-use vk_facts::{Fact, fact_of_fault};
-use vk_links::Links;
-use vk_measures::Measure;
+use vk_findings::Report;
+use vk_hazards::{Fact, Links};
+use vk_mistakes::place_of;
 use vk_model::{At, Entry, Rule};
 use vk_notes::{MOST_NOTES, Summary, note_words, notes_of, summary_of};
 use vk_trace::Outcome;
 use vk_words::{point_words, push_count, sentence};
 
 /// The lines on a refused trace: the verdict, the point in words, what the rule says, the fact that is
-/// reported of it, what the rule compares there, and a repair.
+/// reported of it, what the rule finds there, and a repair.
 pub fn refusal_text(
     alloc: Global,
     input: &[u8],
     trace: &[Entry],
-    at: At,
-    rule: Rule,
-    measure: Option<Measure>,
+    report: &Report<'_>,
 ) -> Result<String, AllocError>
-    requires { first_fault trace.now ≡ Some (at, rule) }
-    ensures { IfOk result (λ text. IsRefusalText trace.now at rule (string_bytes text)) }
+    requires fault { first_fault trace.now ≡ Some (report.now.at, report.now.rule) }
+    requires so { IsReport trace.now report.now }
+    ensures { IfOk result (λ text. IsRefusalText trace.now report.now.at report.now.rule (string_bytes text)) }
 {
-    let mut text = vk_trace::text(alloc, &Outcome::Refused(at, rule))?;
-    let point = point_line(alloc, input, trace, at)?;
+    let mut text = vk_trace::text(alloc, &Outcome::Refused(report.at, report.rule))?;
+    let point = point_line(alloc, input, trace, report.at)?;
     text.push_str(point.as_str())?;
-    let fact = fact_of_fault(alloc, trace, at, rule)?;
-    let links = links_of_fact(alloc, trace, at, rule, &fact)?;
-    let ruled = ruled_lines(alloc, rule, &fact, &links)?;
+    let ruled = ruled_lines(alloc, report.rule, &report.fact, &report.links)?;
     text.push_str(ruled.as_str())?;
-    let points = point_lines(alloc, input, trace, &fact)?;
+    let points = point_lines(alloc, input, trace, &report.fact)?;
     text.push_str(points.as_str())?;
-    let more = more_lines(alloc, trace, at, rule, measure)?;
+    let more = more_lines(alloc, trace, report)?;
     text.push_str(more.as_str())?;
     Ok(text)
 }
@@ -77,24 +73,16 @@ fn reported_lines(
     Ok(lines)
 }
 
-/// The lines on what Vulkan says, on what is compared, on a cause and on a repair, and the notes.
-fn more_lines(
-    alloc: Global,
-    trace: &[Entry],
-    at: At,
-    rule: Rule,
-    measure: Option<Measure>,
-) -> Result<String, AllocError>
-    requires { first_fault trace.now ≡ Some (at, rule) }
+/// The lines on what Vulkan says, on what the rule finds, on a cause and on a repair, and the notes.
+fn more_lines(alloc: Global, trace: &[Entry], report: &Report<'_>) -> Result<String, AllocError>
+    requires { first_fault trace.now ≡ Some (report.now.at, report.now.rule) }
 {
-    let mut lines = identifier_lines(alloc, trace, at, rule)?;
-    let compared = measure_line(alloc, measure)?;
-    lines.push_str(compared.as_str())?;
-    let state = state_line(alloc, trace, at, rule)?;
-    lines.push_str(state.as_str())?;
-    let causes = cause_lines(alloc, trace, at, rule)?;
+    let mut lines = identifier_lines(alloc, trace, report.at, report.rule)?;
+    let found = finding_line(alloc, &report.finding)?;
+    lines.push_str(found.as_str())?;
+    let causes = cause_lines(alloc, trace, &report.cause)?;
     lines.push_str(causes.as_str())?;
-    let repair = repair_lines(alloc, trace, at, rule)?;
+    let repair = repair_lines(alloc, trace, report.at, report.rule)?;
     lines.push_str(repair.as_str())?;
     let notes = note_lines(alloc, trace)?;
     lines.push_str(notes.as_str())?;

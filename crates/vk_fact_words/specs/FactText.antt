@@ -7,14 +7,14 @@ use Rattle.vk_order.specs.declared.bytes.Byte.TheVariants as byte
 use Rattle.vk_model.specs.declared.point.Point.{Point}
 use Rattle.vk_model.specs.Trace.PointViews.{point_of}
 use Rattle.vk_words.specs.Points.{kind_text, at_text}
-use Rattle.vk_facts.specs.declared.asked.ObjectKind.{ObjectKind}
-use Rattle.vk_facts.specs.declared.asked.ObjectKind.TheVariants as kind
-use Rattle.vk_facts.specs.declared.counters.CounterFact.{CounterFact}
-use Rattle.vk_facts.specs.declared.facts.Fact.{Fact}
-use Rattle.vk_facts.specs.declared.facts.Fact.TheVariants as fact
-use Rattle.vk_facts.specs.declared.hazards.HazardFact.{HazardFact}
-use Rattle.vk_facts.specs.declared.lives.Life.{Life}
-use Rattle.vk_facts.specs.declared.strays.StrayId.{StrayId}
+use Rattle.vk_hazards.specs.declared.asked.ObjectKind.{ObjectKind}
+use Rattle.vk_hazards.specs.declared.asked.ObjectKind.TheVariants as kind
+use Rattle.vk_hazards.specs.declared.counters.CounterFact.{CounterFact}
+use Rattle.vk_hazards.specs.declared.facts.Fact.{Fact}
+use Rattle.vk_hazards.specs.declared.facts.Fact.TheVariants as fact
+use Rattle.vk_hazards.specs.declared.hazards.HazardFact.{HazardFact}
+use Rattle.vk_hazards.specs.declared.lives.Life.{Life}
+use Rattle.vk_hazards.specs.declared.strays.StrayId.{StrayId}
 
 -- How a point is called (profile).
 abbrev pub called : At → List ℕ

@@ -1,26 +1,10 @@
 -- What is said of the links of a hazard. The forms are our own (profile).
-use Rattle.std.specs.Prelude.{◌≡◌, ℕ, List, [], ◌++◌, codes, Option, Some, None}
-use Rattle.vk_model.specs.declared.entry.Entry.{Entry}
-use Rattle.vk_model.specs.declared.rule.At.{At}
-use Rattle.vk_facts.specs.declared.facts.Fact.{Fact}
-use Rattle.vk_facts.specs.declared.facts.Fact.TheVariants as fact
-use Rattle.vk_facts.specs.declared.hazards.Placed.{Placed}
-use Rattle.vk_links.specs.declared.links.Links.{Links}
-use Rattle.vk_links.specs.declared.links.Missing.{Missing}
-use Rattle.vk_links.specs.declared.links.Missing.TheVariants as missing
-use Rattle.vk_links.specs.Faults.{AreLinksAt}
+use Rattle.std.specs.Prelude.{ℕ, List, [], ◌++◌, codes, Option, Some, None}
+use Rattle.vk_hazards.specs.declared.hazards.Placed.{Placed}
+use Rattle.vk_hazards.specs.declared.links.Links.{Links}
+use Rattle.vk_hazards.specs.declared.links.Missing.{Missing}
+use Rattle.vk_hazards.specs.declared.links.Missing.TheVariants as missing
 use Rattle.vk_fact_words.specs.FactText.{point_called}
-
--- What is reported of a fact: of a hazard its links, of another one nothing.
-abbrev pub AreLinksOfFact : List Entry → At → Fact → Option Links → Type 0
-AreLinksOfFact entries at (fact.Hazard f) None = ⊥
-AreLinksOfFact entries at (fact.Hazard f) (Some l) = AreLinksAt entries at f l
-AreLinksOfFact entries at _ found = found ≡ None
-
--- The same, where a fact is reported.
-abbrev pub AreLinksOf : List Entry → At → Option Fact → Option Links → Type 0
-AreLinksOf entries at None found = found ≡ None
-AreLinksOf entries at (Some f) found = AreLinksOfFact entries at f found
 
 -- What is missing (profile).
 abbrev pub missing_text : Missing → List ℕ

@@ -1,21 +1,20 @@
 use crate::facts::push_byte;
 use crate::quoting::push_quoted;
 use std::alloc::{AllocError, Global};
-use vk_causes::{Cause, Loss, Signaler, Undefined, User, cause_of};
-use vk_model::{At, Entry, Rule};
+use vk_hazards::{Cause, IdleBarrier, IdleCause, Loss, Signaler, Undefined, User};
+use vk_model::{At, Entry};
 use vk_past::at_of;
 use vk_words::{point_words, push_at};
 
-/// The lines on why a byte is undefined, what uses the object that ends, or what would signal the value
-/// that is waited for.
+/// The lines on why a byte is undefined, what uses the object that ends, what would signal the value that
+/// is waited for, or which barrier doesn't serve.
 pub fn cause_lines(
     alloc: Global,
     trace: &[Entry],
-    at: At,
-    rule: Rule,
+    cause: &Option<Cause<'_>>,
 ) -> Result<String, AllocError> {
     let mut lines = String::new(alloc);
-    let words = cause_words(alloc, trace, at, rule)?;
+    let words = cause_words(alloc, trace, cause)?;
     for (number, line) in words.iter().enumerate() {
         let indent = if number == 0 { "  " } else { "    " };
         lines.push_str(indent)?;
@@ -29,11 +28,10 @@ pub fn cause_lines(
 pub fn cause_member(
     alloc: Global,
     trace: &[Entry],
-    at: At,
-    rule: Rule,
+    cause: &Option<Cause<'_>>,
 ) -> Result<String, AllocError> {
     let mut member = String::new(alloc);
-    let words = cause_words(alloc, trace, at, rule)?;
+    let words = cause_words(alloc, trace, cause)?;
     if words.is_empty() {
         return Ok(member);
     }
@@ -51,13 +49,13 @@ pub fn cause_member(
 fn cause_words(
     alloc: Global,
     trace: &[Entry],
-    at: At,
-    rule: Rule,
+    cause: &Option<Cause<'_>>,
 ) -> Result<Vec<String>, AllocError> {
-    match cause_of(alloc, trace, at, rule)? {
-        Some(Cause::Undefined(undefined)) => undefined_words(alloc, trace, &undefined),
-        Some(Cause::Used(user)) => user_words(alloc, trace, user),
-        Some(Cause::Signaled(signaler)) => signaler_words(alloc, trace, signaler),
+    match cause {
+        Some(Cause::Undefined(undefined)) => undefined_words(alloc, trace, undefined),
+        Some(Cause::Used(user)) => user_words(alloc, trace, *user),
+        Some(Cause::Signaled(signaler)) => signaler_words(alloc, trace, *signaler),
+        Some(Cause::Idle(idle)) => idle_words(alloc, trace, *idle),
         None => Ok(Vec::new(alloc)),
     }
 }
@@ -151,6 +149,24 @@ fn signaler_words(
                 words.push(point_words(alloc, trace, wait)?)?;
             }
         }
+        Signaler::Behind {
+            signal,
+            wait,
+            is_deadlock,
+        } => {
+            let mut line = String::from_str(alloc, "would be signaled by ")?;
+            push_at(&mut line, signal)?;
+            line.push_str(", whose batch comes behind one that waits")?;
+            words.push(line)?;
+            words.push(point_words(alloc, trace, signal)?)?;
+            words.push(point_words(alloc, trace, wait)?)?;
+            if is_deadlock {
+                words.push(String::from_str(
+                    alloc,
+                    "deadlock: what that one waits for is signaled behind it on the same queue",
+                )?)?;
+            }
+        }
         Signaler::Later(at) => {
             let mut line = String::from_str(alloc, "would be signaled by ")?;
             push_at(&mut line, at)?;
@@ -159,6 +175,29 @@ fn signaler_words(
             words.push(point_words(alloc, trace, at)?)?;
         }
     }
+    Ok(words)
+}
+
+fn idle_words(
+    alloc: Global,
+    trace: &[Entry],
+    idle: IdleBarrier<'_>,
+) -> Result<Vec<String>, AllocError> {
+    let mut words = Vec::new(alloc);
+    let at = at_of(&idle.by);
+    let mut line = String::from_str(alloc, "command ")?;
+    push_at(&mut line, at)?;
+    line.push_str(" lies between: ")?;
+    match idle.cause {
+        IdleCause::OtherBytes(index) => {
+            write!(line, "its element {index} isn't on the byte")?;
+        }
+        IdleCause::Unchained => line.push_str(
+            "one element makes the write available, another one visible; elements of one barrier don't chain",
+        )?,
+    }
+    words.push(line)?;
+    words.push(point_words(alloc, trace, at)?)?;
     Ok(words)
 }
 

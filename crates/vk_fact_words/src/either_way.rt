@@ -1,7 +1,7 @@
 use crate::facts::{push_after, push_byte};
 use crate::quoting::push_quoted;
 use std::alloc::{AllocError, Global};
-use vk_facts::{Fact, Hazard, HazardFact};
+use vk_hazards::{Fact, Hazard, HazardFact};
 use vk_model::{Action, Cmd, Entry, Point};
 use vk_order::Byte;
 use vk_words::push_digits;

@@ -2,7 +2,7 @@ ghost use Rattle.std.specs.Prelude.{◌≡◌, ◌++◌, OnOk, IfOk, Some, strin
 ghost use Rattle.vk_fact_words.specs.FactText as text;
 
 use std::alloc::{AllocError, Global};
-use vk_facts::{CounterFact, DeadId, Fact, HazardFact, Life, ObjectKind, StrayId};
+use vk_hazards::{CounterFact, DeadId, Fact, HazardFact, Life, ObjectKind, StrayId};
 use vk_model::{At, Point};
 use vk_order::Byte;
 use vk_past::at_of;
@@ -138,7 +138,7 @@ fn answer_name(answer: bool) -> &'static str
     if answer { "yes" } else { "no" }
 }
 
-fn object_name(kind: ObjectKind) -> &'static str
+pub fn object_name(kind: ObjectKind) -> &'static str
     ensures { result.now ≡ text.object_text kind }
 {
     match kind {

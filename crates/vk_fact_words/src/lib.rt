@@ -1,20 +1,36 @@
-//! Facts of refused traces in words, as lines of a text and as members of an object: the fact that
-//! is reported of the rule, the links of a hazard, what the rule compares, what the point finds,
-//! and why.
+//! What is known of a refused trace in words, as lines of a text and as members of an object: the fact
+//! that is reported of the rule, the links of a hazard, what the rule finds, and why.
 #![tactic(auto)]
 
 mod causes;
 mod either_way;
 mod facts;
+mod findings;
+mod items;
+mod known;
+mod layouts;
 mod links;
-mod measures;
+mod measure_words;
+mod measured;
+mod memory;
+mod numbers;
+mod objects;
+mod overlap_words;
+mod pass_states;
+mod pass_words;
+mod points;
 mod quoting;
-mod states;
+mod reported;
+mod state_words;
+mod stated;
+mod synchronization;
+mod transfers;
+mod values;
 
 pub use causes::{cause_lines, cause_member};
 pub use either_way::{either_way_line, either_way_member};
 pub use facts::{fact_line, fact_member, points_named};
-pub use links::{links_line, links_member, links_of_fact};
-pub use measures::{measure_line, measure_member};
+pub use findings::{finding_line, finding_member};
+pub use links::{links_line, links_member};
 pub use quoting::push_quoted;
-pub use states::{state_line, state_member};
+pub use reported::values_member;

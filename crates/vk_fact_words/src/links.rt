@@ -1,33 +1,9 @@
 ghost use Rattle.std.specs.Prelude.{◌≡◌, ◌++◌, OnOk, IfOk, string_bytes};
-ghost use Rattle.vk_facts.specs.Facts.{IsReportedOf};
 ghost use Rattle.vk_fact_words.specs.LinksText as text;
-ghost use Rattle.vk_fact_words.specs.LinksText.{AreLinksOf};
 
 use crate::facts::push_after;
 use std::alloc::{AllocError, Global};
-use vk_facts::{Fact, Placed};
-use vk_links::{Links, Missing, links_of_fault};
-use vk_model::{At, Entry, Rule};
-
-/// The links of the hazard that is reported of the point at which a trace is refused, if one is.
-pub fn links_of_fact<'a>(
-    alloc: Global,
-    trace: &'a [Entry],
-    at: At,
-    rule: Rule,
-    fact: &Option<Fact<'a>>,
-) -> Result<Option<Links<'a>>, AllocError>
-    requires { IsReportedOf trace.now at rule fact.now }
-    ensures { IfOk result (AreLinksOf trace.now at fact.now) }
-{
-    match fact {
-        Some(Fact::Hazard(hazard)) => {
-            let links = links_of_fault(alloc, trace, at, rule, hazard)?;
-            Ok(Some(links))
-        }
-        _ => Ok(None),
-    }
-}
+use vk_hazards::{Links, Missing, Placed};
 
 /// Adds what is said of links.
 fn push_links(out: &mut String, links: &Links<'_>) -> Result<(), AllocError>

@@ -1,9 +1,10 @@
 use crate::entries::trace;
 use crate::mistakes::Misfit;
+use crate::nesting::first_nested;
+use crate::objects::count_objects;
 use crate::shapes::Shape;
 use serde_json::Value;
 use std::alloc::{AllocError, Global};
-use vk_json::{count_objects, first_nested};
 
 /// The most objects of an input whose value is built: each takes up to a thousand bytes there, and no
 /// trace has one.

@@ -4,7 +4,7 @@ use Rattle.vk_model.specs.declared.entry.Entry.{Entry}
 use Rattle.vk_model.specs.declared.rule.At.{At}
 use Rattle.vk_model.specs.Trace.Order.{order}
 use Rattle.vk_model.specs.Rules.Table.{first_fault}
-use Rattle.vk_edits.specs.Edits.{edited, moved}
+use Rattle.vk_candidates.specs.Edits.{edited, moved}
 use Rattle.vk_repairs.specs.declared.found.Repair.{Repair}
 use Rattle.vk_repairs.specs.Starts.{sound_start, all_points, IsAmong}
 

@@ -1,4 +1,4 @@
-use vk_edits::Edit;
+use vk_candidates::Edit;
 use vk_model::{At, Entry, Rule};
 
 /// Edits of a refused trace, with what they lead to.
@@ -10,7 +10,7 @@ pub struct Repair {
     pub changed: Vec<Entry>,
     /// The first fault of that trace; none where it is accepted.
     pub next: Option<(At, Rule)>,
-    /// Whether that trace asks for less than the refused one did.
+    /// Whether that trace asks for less than the refused one did, or for other bytes.
     pub weaker: bool,
     /// Whether it has made up data, in the place of data that the refused one lacks.
     pub stands_in: bool,

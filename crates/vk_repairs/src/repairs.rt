@@ -16,8 +16,10 @@ use crate::judging::{is_among, judge, with_start};
 use crate::parts::parts_in;
 use crate::seeking::{edits_of, followed, followed_twice, sought};
 use std::alloc::{AllocError, Global};
-use vk_candidates::{Candidates, Kind, PLAIN, STAND_IN, WEAKER};
-use vk_edits::{Edit, STEPS, edited, may_go, moved, with_less, without_edit};
+use vk_candidates::{
+    Candidates, Edit, Kind, PLAIN, STAND_IN, STEPS, WEAKER, edited, may_go, moved, with_less,
+    without_edit,
+};
 use vk_model::{At, Entry, Point, Rule};
 use vk_queues::reference_order;
 
@@ -49,9 +51,9 @@ pub struct Refused<'a> {
 }
 
 /// A repair of a refused trace, whose first fault is given: the first found that makes it accepted,
-/// or else the first found after which its first fault comes later; what asks for less only where
-/// nothing else is found. No edit of it can go. None is said only of the edits that were tried. The
-/// only error is want of memory.
+/// or else the first found after which its first fault comes later; what asks for less, or for other
+/// bytes, only where nothing else is found. No edit of it can go. None is said only of the edits that
+/// were tried. The only error is want of memory.
 pub fn repair(
     alloc: Global,
     trace: &[Entry],

@@ -1,7 +1,9 @@
 use crate::judging::judge;
 use std::alloc::{AllocError, Global};
-use vk_candidates::{Candidates, Case, Kind, PLAIN, WEAKER, candidates};
-use vk_edits::{Edit, copy_of_edits, edited, has_removal, moved};
+use vk_candidates::{
+    Candidates, Case, Edit, Kind, PLAIN, WEAKER, candidates, copy_of_edits, edited, has_removal,
+    moved,
+};
 use vk_model::{At, Entry, Point, Rule};
 use vk_queues::reference_order;
 

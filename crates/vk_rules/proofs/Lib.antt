@@ -1,4 +1,6 @@
 pub mod Making
-pub mod Transitions
+pub mod PartLemmas
 pub mod Judging
 pub mod Writing
+pub mod SpanLemmas
+pub mod AliasLemmas

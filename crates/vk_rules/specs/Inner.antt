@@ -1,4 +1,15 @@
-pub mod Ranges
 pub mod RuleParts
 pub mod Overlapping
 pub mod Owners
+pub mod Ranges
+pub mod Formats
+pub mod Sizes
+pub mod Passes
+pub mod Binding
+pub mod Aligns
+pub mod Usages
+pub mod Transfers
+pub mod Counts
+pub mod Subresources
+pub mod Synchronization
+pub mod Layouts

@@ -1,2 +1,16 @@
 pub mod Ranges
+pub mod Formats
+pub mod Traces
+pub mod Ids
+pub mod Sizes
+pub mod Mapping
+pub mod Layouts
+pub mod Passes
+pub mod Binding
+pub mod Aligns
+pub mod Usages
+pub mod Owners
+pub mod Counts
+pub mod Subresources
+pub mod Synchronization
 pub mod Inner

@@ -2,7 +2,7 @@ ghost use Rattle.std.specs.Prelude.{◌≡◌, ◌∷◌, ◌++◌, ◌||◌, �
 ghost use Rattle.std.specs.List.{list_any};
 ghost use Rattle.vk_model.specs.Basics.{holds};
 ghost use Rattle.vk_model.specs.Trace.Objects.{live, defrag_in, pool_of};
-ghost use Rattle.vk_model.specs.Trace.Point.{Past, on_host};
+ghost use Rattle.vk_model.specs.Trace.Point.{on_host};
 ghost use Rattle.vk_model.specs.Trace.Structure.{IsOrdered};
 ghost use Rattle.vk_model.specs.Rules.Ids as ids;
 ghost use Rattle.vk_model.specs.Trace.PointViews.{action_of, point_of};
@@ -286,26 +286,6 @@ fn is_stray(history: &History<'_>, pool: Option<u32>, resource: u32) -> bool
     match (history.pool_of(resource), pool) {
         (Some(one), Some(other)) => one != other,
         _ => true,
-    }
-}
-
-/// QUEUE: the queue is over 3.
-pub fn breaks_queue(point: &Point<'_>) -> bool
-    ensures { (past : Past) → result ≡ ids.breaks_queue past (point_of point.now) }
-{
-    match point.action {
-        Action::Host(Entry::Submit { queue, .. }) => *queue > 3,
-        _ => false,
-    }
-}
-
-/// QUEUE_KIND: a clear, set or await on queue 2 or 3.
-pub fn breaks_queue_kind(point: &Point<'_>) -> bool
-    ensures { (past : Past) → result ≡ ids.breaks_queue_kind past (point_of point.now) }
-{
-    match point.action {
-        Action::Run(Cmd::Clear { .. } | Cmd::Set { .. } | Cmd::Await { .. }) => point.queue >= 2,
-        _ => false,
     }
 }
 

@@ -1,38 +1,80 @@
-ghost use Rattle.std.specs.Prelude.{◌≡◌, true, false};
+ghost use Rattle.std.specs.Prelude.{◌≡◌, ◌++◌, List, map, length, IfSome, Some, is_some};
 ghost use Rattle.std.specs.List.{list_any};
 ghost use Rattle.vk_model.specs.World.Effect.{world};
-ghost use Rattle.vk_model.specs.World.Ownership as ownership;
 ghost use Rattle.vk_model.specs.Rules.Layouts as layouts;
-ghost use Rattle.vk_model.specs.Trace.PointViews.{point_of};
+ghost use Rattle.vk_model.specs.Rules.Layouts.{Named};
+ghost use Rattle.vk_model.specs.Trace.PointViews.{action_of, point_of};
 ghost use Rattle.vk_history.specs.PointViews.{past};
+ghost use Rattle.vk_rules.specs.Layouts.{IsWrongLayout, IsWrongLayoutBy, IsWrongPart, named_of};
+ghost use Rattle.vk_rules.specs.Inner.Layouts.{IsWrongOne, cleared_part, region_part, source_part, destination_part};
 
-use vk_history::{History, family_of, is_transition};
-use vk_layouts::Transfer;
-use vk_model::{
-    Action, BufferImageCopy, Cmd, Element, Families, ImageCopy, Layout, Point, SubresourceRange,
-};
+use crate::transitions::{Transition, bad_transition_of};
+use vk_history::History;
+use vk_model::{Action, BufferImageCopy, Cmd, ImageCopy, Layout, Point, SubresourceRange};
+
+/// Subresources of an image that a command names in a layout.
+#[derive(Clone, Copy)]
+pub struct NamedPart {
+    /// Which of the parts that the command names it is, those that it reads first.
+    pub index: usize,
+    /// The id of the image.
+    pub image: u32,
+    /// The number of the layout.
+    pub layout: u32,
+    /// The levels and layers.
+    pub range: SubresourceRange,
+    /// Whether the command writes them; else it reads them.
+    pub is_written: bool,
+}
+
+/// LAYOUT: what is in a wrong layout.
+#[derive(Clone, Copy)]
+pub enum WrongLayout {
+    /// A part whose layout isn't allowed for what the command does with it.
+    Unallowed(NamedPart),
+    /// A part of which some is in another layout.
+    Other(NamedPart),
+    /// A transition to UNDEFINED, or from or to a layout that isn't known.
+    Transition(Transition),
+}
 
 /// LAYOUT: a layout that isn't allowed for its use or isn't current, or a transition between layouts
 /// that it can't have.
 pub fn breaks_layout(history: &History<'_>, point: &Point<'_>) -> bool
     ensures { result ≡ layouts.breaks_layout (past history.now) (point_of point.now) }
 {
+    layout_of(history, point).is_some()
+}
+
+/// LAYOUT: the first part or transition of a point whose layout is wrong.
+pub fn layout_of(history: &History<'_>, point: &Point<'_>) -> Option<WrongLayout>
+    ensures broken { is_some result ≡ layouts.breaks_layout (past history.now) (point_of point.now) }
+    ensures reported { IfSome result (IsWrongLayout (past history.now) (action_of point.now.action)) }
+{
     match point.action {
-        Action::Run(command) => is_bad(history, command),
-        _ => false,
+        Action::Run(command) => of_command(history, command),
+        _ => None,
     }
 }
 
-fn is_bad(history: &History<'_>, command: &Cmd) -> bool
-    ensures { result ≡ layouts.bad_layout (world (past history.now)) command.now }
+fn of_command(history: &History<'_>, command: &Cmd) -> Option<WrongLayout>
+    ensures broken { is_some result ≡ layouts.bad_layout (world (past history.now)) command.now }
+    ensures reported { IfSome result (IsWrongLayoutBy (world (past history.now)) command.now) }
 {
-    names_badly(history, command) || changes_badly(command)
+    match of_parts(history, command) {
+        Some(found) => Some(found),
+        None => {
+            let transition = bad_transition_of(command)?;
+            Some(WrongLayout::Transition(transition))
+        }
+    }
 }
 
-#[tactic(auto, using(vk_model::proofs::Lists::Members::any_map, crate::proofs::Transitions::Commands::any_of_two))]
-fn names_badly(history: &History<'_>, command: &Cmd) -> bool
-    ensures { result ≡ list_any (layouts.bad_named (world (past history.now)))
-        (layouts.layouts_named command.now) }
+/// The first part of a command whose layout is wrong.
+#[tactic(auto, using(vk_model::proofs::Lists::Members::any_map, crate::proofs::PartLemmas::any_of_two))]
+fn of_parts(history: &History<'_>, command: &Cmd) -> Option<WrongLayout>
+    ensures broken { is_some result ≡ list_any (layouts.bad_named (world (past history.now))) (layouts.layouts_named command.now) }
+    ensures reported { IfSome result (IsWrongPart (world (past history.now)) (layouts.layouts_named command.now)) }
 {
     match command {
         Cmd::Clear {
@@ -40,98 +82,143 @@ fn names_badly(history: &History<'_>, command: &Cmd) -> bool
             layout,
             ranges,
             ..
-        } => clears_badly(history, *image, *layout, ranges.as_slice()),
+        } => of_ranges(history, *image, layout.code(), ranges.as_slice()),
         Cmd::CopyIn {
             image,
             layout,
             regions,
             ..
-        } => copies_badly(history, *image, *layout, true, regions.as_slice()),
+        } => of_regions(history, *image, layout.code(), true, regions.as_slice()),
         Cmd::CopyOut {
             image,
             layout,
             regions,
             ..
-        } => copies_badly(history, *image, *layout, false, regions.as_slice()),
+        } => of_regions(history, *image, layout.code(), false, regions.as_slice()),
         Cmd::CopyImage {
             source,
             source_layout,
             destination,
             destination_layout,
             regions,
-        } => {
-            reads_badly(history, *source, *source_layout, regions.as_slice())
-                || writes_badly(
-                    history,
-                    *destination,
-                    *destination_layout,
-                    regions.as_slice(),
-                )
-        }
-        _ => false,
+        } => match of_sources(history, *source, source_layout.code(), regions.as_slice()) {
+            Some(found) => Some(found),
+            None => of_destinations(
+                history,
+                *destination,
+                destination_layout.code(),
+                regions.as_slice(),
+            ),
+        },
+        _ => None,
     }
 }
 
-fn clears_badly(
+/// The first range of a clear whose layout is wrong.
+fn of_ranges(
     history: &History<'_>,
     image: u32,
-    layout: Layout,
+    layout: u32,
     ranges: &[SubresourceRange],
-) -> bool
-    ensures { result ≡ list_any (λ r. layouts.bad_named (world (past history.now))
-        (record { image = image; layout = layout; range = r; written = true })) ranges.now }
+) -> Option<WrongLayout>
+    ensures broken { is_some result ≡ list_any (λ r. layouts.bad_named (world (past history.now)) (cleared_part image layout r)) ranges.now }
+    ensures reported { IfSome result (IsWrongPart (world (past history.now)) (map (cleared_part image layout) ranges.now)) }
 {
-    ranges
-        .iter()
-        .any(|range| is_bad_named(history, image, layout, true, range))
+    for (index, range) in ranges.iter().enumerate() {
+        let part = NamedPart {
+            index,
+            image,
+            layout,
+            range: *range,
+            is_written: true,
+        };
+        if let Some(found) = of_part(history, part) {
+            return Some(found);
+        }
+    }
+    None
 }
 
-fn copies_badly(
+/// The first region of a copy between a buffer and an image whose layout is wrong.
+fn of_regions(
     history: &History<'_>,
     image: u32,
-    layout: Layout,
+    layout: u32,
     is_written: bool,
     regions: &[BufferImageCopy],
-) -> bool
-    ensures { result ≡ list_any (λ g. layouts.bad_named (world (past history.now))
-        (layouts.named image layout is_written g.level g.first_layer g.layers)) regions.now }
+) -> Option<WrongLayout>
+    ensures broken { is_some result ≡ list_any (λ g. layouts.bad_named (world (past history.now)) (region_part image layout is_written g)) regions.now }
+    ensures reported { IfSome result (IsWrongPart (world (past history.now)) (map (region_part image layout is_written) regions.now)) }
 {
-    regions.iter().any(|region| {
-        let range = range_of(region.level, region.first_layer, region.layers);
-        is_bad_named(history, image, layout, is_written, &range)
-    })
+    for (index, region) in regions.iter().enumerate() {
+        let part = NamedPart {
+            index,
+            image,
+            layout,
+            range: layers_of(region.level, region.first_layer, region.layers),
+            is_written,
+        };
+        if let Some(found) = of_part(history, part) {
+            return Some(found);
+        }
+    }
+    None
 }
 
-fn reads_badly(history: &History<'_>, image: u32, layout: Layout, regions: &[ImageCopy]) -> bool
-    ensures { result ≡ list_any (λ g. layouts.bad_named (world (past history.now))
-        (layouts.named image layout false g.source_level g.source_first_layer g.layers)) regions.now }
+/// The first region of an image copy that reads what is in a wrong layout.
+fn of_sources(
+    history: &History<'_>,
+    image: u32,
+    layout: u32,
+    regions: &[ImageCopy],
+) -> Option<WrongLayout>
+    ensures broken { is_some result ≡ list_any (λ g. layouts.bad_named (world (past history.now)) (source_part image layout g)) regions.now }
+    ensures reported { (rest : List Named) → IfSome result (IsWrongPart (world (past history.now)) (map (source_part image layout) regions.now ++ rest)) }
 {
-    regions.iter().any(|region| {
-        let range = range_of(
-            region.source_level,
-            region.source_first_layer,
-            region.layers,
-        );
-        is_bad_named(history, image, layout, false, &range)
-    })
+    for (index, region) in regions.iter().enumerate() {
+        let level = region.source_level;
+        let part = NamedPart {
+            index,
+            image,
+            layout,
+            range: layers_of(level, region.source_first_layer, region.layers),
+            is_written: false,
+        };
+        if let Some(found) = of_part(history, part) {
+            return Some(found);
+        }
+    }
+    None
 }
 
-fn writes_badly(history: &History<'_>, image: u32, layout: Layout, regions: &[ImageCopy]) -> bool
-    ensures { result ≡ list_any (λ g. layouts.bad_named (world (past history.now))
-        (layouts.named image layout true g.destination_level g.destination_first_layer g.layers)) regions.now }
+/// The first region of an image copy that writes what is in a wrong layout.
+fn of_destinations(
+    history: &History<'_>,
+    image: u32,
+    layout: u32,
+    regions: &[ImageCopy],
+) -> Option<WrongLayout>
+    ensures broken { is_some result ≡ list_any (λ g. layouts.bad_named (world (past history.now)) (destination_part image layout g)) regions.now }
+    ensures reported { (read : List Named) → length read ≡ length regions.now → IfSome result (IsWrongPart (world (past history.now)) (read ++ map (destination_part image layout) regions.now)) }
 {
-    regions.iter().any(|region| {
-        let range = range_of(
-            region.destination_level,
-            region.destination_first_layer,
-            region.layers,
-        );
-        is_bad_named(history, image, layout, true, &range)
-    })
+    for (index, region) in regions.iter().enumerate() {
+        let level = region.destination_level;
+        let part = NamedPart {
+            index: regions.len() + index,
+            image,
+            layout,
+            range: layers_of(level, region.destination_first_layer, region.layers),
+            is_written: true,
+        };
+        if let Some(found) = of_part(history, part) {
+            return Some(found);
+        }
+    }
+    None
 }
 
 /// Layers of one level.
-fn range_of(level: u32, first_layer: u32, layers: u32) -> SubresourceRange
+fn layers_of(level: u32, first_layer: u32, layers: u32) -> SubresourceRange
     ensures { result ≡ record {
       first_level = level;
       levels = 1;
@@ -147,18 +234,19 @@ fn range_of(level: u32, first_layer: u32, layers: u32) -> SubresourceRange
     }
 }
 
-/// Whether subresources are named in a layout that isn't allowed for their use or isn't current.
-fn is_bad_named(
-    history: &History<'_>,
-    image: u32,
-    layout: Layout,
-    is_written: bool,
-    range: &SubresourceRange,
-) -> bool
-    ensures { result ≡ layouts.bad_named (world (past history.now))
-        (record { image = image; layout = layout; range = range.now; written = is_written }) }
+/// A part whose layout isn't allowed for its use or isn't current.
+fn of_part(history: &History<'_>, part: NamedPart) -> Option<WrongLayout>
+    ensures broken { is_some result ≡ layouts.bad_named (world (past history.now)) (named_of part) }
+    ensures reported { IfSome result (IsWrongOne (world (past history.now)) part) }
 {
-    !is_allowed(is_written, layout) || !history.is_in(image, range, layout)
+    let layout = Layout::new(part.layout);
+    if !is_allowed(part.is_written, layout) {
+        Some(WrongLayout::Unallowed(part))
+    } else if history.is_in(part.image, &part.range, layout) {
+        None
+    } else {
+        Some(WrongLayout::Other(part))
+    }
 }
 
 fn is_allowed(is_written: bool, layout: Layout) -> bool
@@ -170,80 +258,4 @@ fn is_allowed(is_written: bool, layout: Layout) -> bool
         Layout::TRANSFER_SRC_OPTIMAL
     };
     layout == Layout::GENERAL || layout == optimal
-}
-
-fn changes_badly(command: &Cmd) -> bool
-    ensures { result ≡ list_any layouts.bad_transition (ownership.elements_of command.now) }
-{
-    match command {
-        Cmd::Barrier { elements } => elements.as_slice().iter().any(is_bad_transition),
-        _ => false,
-    }
-}
-
-fn is_bad_transition(element: &Element) -> bool
-    ensures { result ≡ layouts.bad_transition element.now }
-{
-    match element {
-        Element::Image(on_image) => {
-            is_transition(on_image)
-                && (!is_layout(on_image.old_layout)
-                    || !is_layout(on_image.new_layout)
-                    || on_image.new_layout == Layout::UNDEFINED)
-        }
-        _ => false,
-    }
-}
-
-/// Whether a number is a layout of the profile.
-fn is_layout(layout: Layout) -> bool
-    ensures { result ≡ layouts.is_layout layout }
-{
-    layout == Layout::UNDEFINED
-        || layout == Layout::GENERAL
-        || layout == Layout::TRANSFER_SRC_OPTIMAL
-        || layout == Layout::TRANSFER_DST_OPTIMAL
-}
-
-/// OLD_LAYOUT: a transition from a layout that isn't the subresources' current one.
-pub fn breaks_old_layout(history: &History<'_>, point: &Point<'_>) -> bool
-    ensures { result ≡ layouts.breaks_old_layout (past history.now) (point_of point.now) }
-{
-    match point.action {
-        Action::Run(Cmd::Barrier { elements }) => {
-            leave_others(history, point.queue, elements.as_slice())
-        }
-        _ => false,
-    }
-}
-
-fn leave_others(history: &History<'_>, queue: u32, elements: &[Element]) -> bool
-    ensures { result ≡ list_any (layouts.bad_old_layout (world (past history.now)) queue)
-        elements.now }
-{
-    elements
-        .iter()
-        .any(|element| leaves_other(history, queue, element))
-}
-
-fn leaves_other(history: &History<'_>, queue: u32, element: &Element) -> bool
-    ensures { result ≡ layouts.bad_old_layout (world (past history.now)) queue element.now }
-{
-    match element {
-        Element::Image(on_image) => {
-            is_transition(on_image)
-                && !acquires(queue, on_image.families)
-                && on_image.old_layout != Layout::UNDEFINED
-                && !history.is_in(on_image.image, &on_image.range, on_image.old_layout)
-        }
-        _ => false,
-    }
-}
-
-/// Whether an element with these families is the second half of a transfer on a queue.
-fn acquires(queue: u32, families: Families) -> bool
-    ensures { result
-        ≡ ownership.acquires (ownership.transfer (ownership.family_of queue) families) }
-{
-    matches!(Transfer::of(family_of(queue), families), Transfer::Acquire)
 }

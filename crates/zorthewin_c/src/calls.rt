@@ -1,11 +1,13 @@
 ghost use Rattle.std.specs.Prelude.{◌≡◌, ◌<◌};
 ghost use Rattle.vk_model.specs.Memory.HeapSizes.{IsHeapSize};
 ghost use Rattle.vk_explain.specs.declared.forms.Form.TheVariants.{Text, Json};
-ghost use Rattle.vk_explain.specs.declared.forms.Wanted.TheVariants.{Explained, Repaired};
+ghost use Rattle.vk_explain.specs.declared.forms.Wanted.TheVariants.{Explained, Repaired, ExplainedAndRepaired};
 ghost use Rattle.zorthewin_c.specs.Calls.{IsHanded, IsNothing, replay_number, judgment_number, ReplayComes, ExplanationComes};
 
 use std::alloc::Global;
-use vk_explain::{Explanation, Form, Judgment, Wanted, explanation_of, repaired_of};
+use vk_explain::{
+    Explanation, Form, Judgment, Wanted, explained_and_repaired, explanation_of, repaired_of,
+};
 use vk_model::{Config, First, Last, Scheduler, Seeded};
 use vk_run::{QueueCaches, Status, answer_of};
 use vk_trace::ReadTraceError;
@@ -115,6 +117,7 @@ fn say(alloc: Global, trace: &[u8], wanted: Wanted, out: &mut [u8], length: &mut
     let said = match wanted {
         Wanted::Explained(form) => explanation_of(alloc, trace, form),
         Wanted::Repaired => repaired_of(alloc, trace),
+        Wanted::ExplainedAndRepaired => explained_and_repaired(alloc, trace),
     };
     match said {
         Ok(Explanation { judgment, text }) => {
@@ -125,8 +128,8 @@ fn say(alloc: Global, trace: &[u8], wanted: Wanted, out: &mut [u8], length: &mut
     }
 }
 
-/// Explains a trace in the form 0 (lines), 1 (a JSON object) or 2 (the trace after repairs, and of the
-/// verdict that on it). It answers 0 where the trace is accepted, 1 where it is refused, 2 where the
+/// Explains a trace in the form 0 (lines), 1 (a JSON object), 2 (the trace after repairs, and of the
+/// verdict that on it) or 3 (the object, with the repairs and the trace after them). It answers 0 where the trace is accepted, 1 where it is refused, 2 where the
 /// bytes are no trace, 4 where there is no memory, and 6 where the form isn't one that there is. Of 0, 1
 /// and 2 the text is written to `out`, as much as there is room for, and its whole length to `length`;
 /// else 0 is.
@@ -141,13 +144,15 @@ pub extern "C" fn zw_explain(
     ensures lines { form ≡ 0 → ExplanationComes (Explained Text) trace.now out.old out.new length.new result }
     ensures object { form ≡ 1 → ExplanationComes (Explained Json) trace.now out.old out.new length.new result }
     ensures repaired { form ≡ 2 → ExplanationComes Repaired trace.now out.old out.new length.new result }
-    ensures otherwise { (form < 3 → ⊥) → IsNothing out.old out.new length.new × (result ≡ 6) }
+    ensures both { form ≡ 3 → ExplanationComes ExplainedAndRepaired trace.now out.old out.new length.new result }
+    ensures otherwise { (form < 4 → ⊥) → IsNothing out.old out.new length.new × (result ≡ 6) }
 {
     *length = 0;
     match form {
         0 => say(alloc, trace, Wanted::Explained(Form::Text), out, length),
         1 => say(alloc, trace, Wanted::Explained(Form::Json), out, length),
         2 => say(alloc, trace, Wanted::Repaired, out, length),
+        3 => say(alloc, trace, Wanted::ExplainedAndRepaired, out, length),
         _ => NO_ARGUMENT,
     }
 }

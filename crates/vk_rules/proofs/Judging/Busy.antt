@@ -1,21 +1,25 @@
 -- A resource that is destroyed is in use where it is live and busy; a pool is busy where one of its resources is.
-use Rattle.std.proofs.Common.{◌≡◌, ℕ, List, ◌∷◌, Bool, true, ◌&&◌, ◌==◌, refl, ap, sym, ◌∙◌, Option, Some, None}
+use Rattle.std.proofs.Common.{◌≡◌, ℕ, List, ◌∷◌, Bool, true, ◌&&◌, ◌==◌, refl, ap, sym, ◌∙◌, subst, Option, Some, None}
 use Rattle.std.specs.Prelude.{Contains, option_and_then, is_some}
 use Rattle.std.specs.List.{list_any, filter_map}
 use Rattle.std.proofs.lemmas.Bool.{eqb-true, eq-eqb, and_parts, and_from}
 use Rattle.std.proofs.Math.Bool.{or-false}
 use Rattle.vk_model.specs.declared.entry.Entry.{Entry}
 use Rattle.vk_model.specs.Basics.{holds}
-use Rattle.vk_model.specs.Trace.Point.{Past, Point, Host, entries}
+use Rattle.vk_model.specs.Trace.Point.{Past, Point, Action, Host, host_of, entries}
 use Rattle.vk_model.specs.Trace.Objects.{live, live_resources, made_by, pool_of, resource_in}
 use Rattle.vk_model.specs.Rules.Ids.{is_resource}
-use Rattle.vk_model.specs.Sync.Node.{Hosts, nodes, acts}
+use Rattle.vk_model.specs.Rules.Passes.{pass_of, pool_of_defrag, passes_busy}
+use Rattle.vk_model.specs.Sync.Node.{Node, Hosts, nodes, acts}
 use Rattle.vk_model.specs.Sync.Complete.{is_busy, some_busy}
-use Rattle.vk_model.proofs.Lists.Members.{some_member, member_passes, filtered}
+use Rattle.vk_model.proofs.Lists.Members.{some_member, member_passes, filtered, only_one}
 use Rattle.vk_model.proofs.Lists.Truths.{bool_same}
 use Rattle.vk_laws.proofs.Living.Alive.{is_alive, among_live}
 use Rattle.vk_touches.specs.Touched.{next_node}
 use Rattle.vk_history.proofs.Living.Residents.{named}
+use Rattle.vk_rules.specs.declared.passes.Passing.{Passing}
+use Rattle.vk_rules.specs.Passes.{IsBusyResident}
+use Rattle.vk_rules.specs.Inner.Passes.{IsPassing}
 use Rattle.vk_rules.specs.Inner.RuleParts.{is_resident_busy}
 use Rattle.vk_touches.proofs.Touching.LastHazards.{one_next}
 
@@ -74,3 +78,30 @@ pool_busy past p x q residents is all =
     ))
     (λ r c h. let first = and_parts (alive r && here r) (busy r) h in let two = and_parts (alive r) (here r) first.0 in
     (among_live past r (is_alive past r is_resource two.0), and_from (here r) (busy r) two.1 first.1))
+
+-- the same, by whether one is found
+pub passes_busy_is : (past : Past) (p : Point) (x : Entry) (q : ℕ) (residents : List ℕ) (b : Bool) → p.action ≡ Host x → Some q ≡ option_and_then (pool_of_defrag past) (pass_of x) → ((r : ℕ) → pool_of past r ≡ Some q → Contains residents r)
+    → b ≡ list_any (is_resident_busy past p x q) residents → b ≡ passes_busy past p x
+passes_busy_is past p x q residents b is of all by =
+    by ∙ sym (pool_busy past p x q residents is all) ∙ ap (λ (o : Option ℕ). holds o (λ q. some_busy past p (λ r. holds (pool_of past r) (λ s. q == s)))) of
+
+-- what is reported of one that is found
+pub busy_resident : (past : Past) (p : Point) (x : Entry) (s : Passing) (r : ℕ) → p.action ≡ Host x → IsPassing past x s → is_resident_busy past p x s.pool r ≡ true
+    → IsBusyResident past p (record { defrag = s.defrag; pool = s.pool; resource = r })
+busy_resident past p x s r is of h =
+    let n = next_node past p (Hosts x) in
+    let alive : Bool = holds (live past r) is_resource in
+    let here : Bool = holds (pool_of past r) (λ t. s.pool == t) in
+    let first = and_parts (alive && here) (is_busy past (nodes (p ∷ past)) n r) h in
+    let two = and_parts alive here first.0 in
+    record {
+      pass = ap (λ (a : Action). option_and_then pass_of (host_of a)) is ∙ of.0;
+      pool = of.1;
+      lies = named (pool_of past r) s.pool two.1;
+      lives = turned (live past r) two.0;
+      busy = λ m c. subst (λ (k : Node). is_busy past (nodes (p ∷ past)) k r ≡ true) (only_one n m (subst (λ (l : List Node). Contains l m) (one_next past p (Hosts x) (ap acts is)) c)) first.1;
+    }
+  where
+    turned : (o : Option Entry) → holds o is_resource ≡ true → is_some (option_and_then resource_in o) ≡ true
+    turned None h = absurd cc
+    turned (Some y) h = h

@@ -1,17 +1,22 @@
 -- OWNER_PAIR of one element, which names a resource and families.
-use Rattle.std.proofs.Common.{◌≡◌, ℕ, List, Bool, false, ◌||◌, ◌&&◌, not, refl, ap, sym, ◌∙◌, Option, Some}
-use Rattle.std.specs.Prelude.{nat_lt}
+use Rattle.std.proofs.Common.{◌≡◌, ◌==◌, ℕ, List, Bool, true, false, ◌||◌, ◌&&◌, not, refl, ap, sym, subst, ◌∙◌, Option, Some, None}
+use Rattle.std.specs.Prelude.{nat_lt, IfOk, IfSome, Result, Ok, Err}
+use Rattle.std.specs.Ordering.{nat_cmp}
+use Rattle.std.specs.BTreeMap.{get}
 use Rattle.vk_model.specs.declared.command.Element.{Element}
 use Rattle.vk_model.specs.declared.command.Families.{Families}
 use Rattle.vk_model.specs.Basics.{holds}
 use Rattle.vk_model.specs.Trace.Objects.{is_exclusive}
 use Rattle.vk_model.specs.Trace.Point.{Past, Point}
-use Rattle.vk_model.specs.World.Bytes.{World}
-use Rattle.vk_model.specs.World.Ownership.{Transfer, named_by, families_of, family_of, transfer, transfer_on}
+use Rattle.vk_model.specs.World.Bytes.{World, Owner}
+use Rattle.vk_model.specs.World.Effect.{world}
+use Rattle.vk_model.specs.World.Ownership.{Transfer, Release, Acquire, named_by, families_of, family_of, transfer, transfer_on}
 use Rattle.vk_model.specs.Sync.Node.{Node}
 use Rattle.vk_model.specs.Rules.Owners.{bad_pair, bad_owner, bad_families, families_differ}
 use Rattle.vk_rules.specs.declared.halves.Changed.{Changed}
-use Rattle.vk_rules.specs.Inner.Owners.{Judges}
+use Rattle.vk_rules.specs.declared.owners.OwnerFault.{OwnerFault}
+use Rattle.vk_rules.specs.Owners.{IsFault}
+use Rattle.vk_rules.specs.Inner.Owners.{Judges, IsFaultNow, IsKept}
 
 -- what an element does is known by the families that it names
 pub transfer_named : (q : ℕ) (e : Element) (t : Families) → families_of e ≡ Some t → transfer_on q e ≡ transfer (family_of q) t
@@ -33,3 +38,32 @@ owner_judges past p e r t does named names doing good old new bad judges = λ do
       where
         good_families : bad_families past e r ≡ false
         good_families = ap (λ (o : Option Families). holds o (λ u. families_differ u && (nat_lt 1 u.source || nat_lt 1 u.destination || not (is_exclusive past r)))) names ∙ good
+
+-- what is half of a transfer names two families
+pub release_differs : (f : ℕ) (t : Families) → transfer f t ≡ Release → families_differ t ≡ true
+release_differs f t does = go (t.source == t.destination) refl
+  where
+    go : (b : Bool) → (t.source == t.destination) ≡ b → families_differ t ≡ true
+    go true same = let h = rw same at does in absurd cc
+    go false same = rw same refl
+
+pub acquire_differs : (f : ℕ) (t : Families) → transfer f t ≡ Acquire → families_differ t ≡ true
+acquire_differs f t does = go (t.source == t.destination) refl
+  where
+    go : (b : Bool) → (t.source == t.destination) ≡ b → families_differ t ≡ true
+    go true same = let h = rw same at does in absurd cc
+    go false same = rw same refl
+
+-- what holds anyway is said of each fault
+pub of_each : {A E : Type 0} (P : Type 0) (r : Result (Option A) E) → P → IfOk r (λ o. IfSome o (λ a. P))
+of_each P (Ok None) p = tt
+of_each P (Ok (Some a)) p = p
+of_each P (Err e) p = tt
+
+-- a fault by the owner before the barrier, where no element changed that
+pub fault_unchanged : (past : Past) (p : Point) (e : Element) (r : ℕ) (t : Families) (old : Changed) (o : Option OwnerFault) → get nat_cmp old.released r ≡ None
+    → IfSome o (IsFault p.queue e t (is_exclusive past r) ((world past).owner r)) → IfSome o (IsFaultNow past p e r t old)
+fault_unchanged past p e r t old None unchanged fault = tt
+fault_unchanged past p e r t old (Some f) unchanged fault = λ done w are.
+    let kept : IsKept past p.queue None done (w.owner r) r = subst (λ (b : Option Bool). IsKept past p.queue b done (w.owner r) r) unchanged (are r) in
+    subst (λ (o : Owner). IsFault p.queue e t (is_exclusive past r) o f) (sym kept.0) fault

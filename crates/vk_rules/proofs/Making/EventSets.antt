@@ -1,6 +1,6 @@
 -- In a past without a fault an event was set once at most.
-use Rattle.std.proofs.Common.{◌≡◌, ℕ, List, [], ◌∷◌, length, Bool, true, false, not, ◌==◌, refl, ap, sym, ◌∙◌, Option, Some, None, arith}
-use Rattle.std.specs.Prelude.{nat_lt, if◌then◌else◌, option_map, option_and_then, is_some}
+use Rattle.std.proofs.Common.{◌≡◌, ℕ, List, [], ◌∷◌, length, Bool, true, false, not, ◌==◌, refl, ap, sym, subst, ◌∙◌, Option, Some, None, arith}
+use Rattle.std.specs.Prelude.{Contains, nat_lt, if◌then◌else◌, option_map, option_and_then, is_some}
 use Rattle.std.specs.List.{list_any, cons_option}
 use Rattle.std.specs.Option.{option_or}
 use Rattle.std.proofs.lemmas.Bool.{false_from_ne_true, eqb-true}
@@ -15,6 +15,7 @@ use Rattle.vk_model.specs.Trace.Point.{Past, Point, Action, Host, Wait, Run, Sig
 use Rattle.vk_model.specs.Rules.Synchronization.{set_by, sets, on_queue, bad_event, breaks_event_state, same_dependencies}
 use Rattle.vk_model.specs.Rules.Table.{fault, breaks}
 use Rattle.vk_model.specs.Rules.Fault.{newest, older, IsUnbroken}
+use Rattle.vk_model.proofs.Lists.Members.{none_in, only_one}
 use Rattle.vk_model.proofs.Rules.Fault.{unbroken_of_none}
 use Rattle.vk_history.specs.Made.{Set, last_set}
 
@@ -109,6 +110,13 @@ module _ (past : Past) (none : fault past ≡ None) where
     go : (o : Option Set) → list_any (same_dependencies ms) (listed o) ≡ holds o (λ s. same_dependencies ms s.elements)
     go None = refl
     go (Some s) = or-false _
+
+  -- the elements that it was set with are those of the last set
+  pub only_set : (v : ℕ) (s : Set) → Some s ≡ last_set past v → (es : List Dependency) → Contains (sets past v) es → s.elements ≡ es
+  only_set v s last es there = only_one s.elements es (subst (λ (l : List (List Dependency)). Contains l es) (sets_are past v (unbroken_of_none past none) ∙ ap listed (sym last)) there)
+
+  pub never_set : (v : ℕ) → None ≡ last_set past v → (es : List Dependency) → Contains (sets past v) es → ⊥
+  never_set v last es there = none_in es (subst (λ (l : List (List Dependency)). Contains l es) (sets_are past v (unbroken_of_none past none) ∙ ap listed (sym last)) there)
 
 pub some_map : {A B : Type 0} (f : A → B) (o : Option A) → is_some (option_map f o) ≡ is_some o
 some_map f None = refl

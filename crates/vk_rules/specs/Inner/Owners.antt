@@ -4,17 +4,22 @@ use Rattle.std.specs.List.{list_any, find}
 use Rattle.std.specs.Ordering.{nat_cmp}
 use Rattle.std.specs.BTreeMap.{get}
 use Rattle.vk_model.specs.declared.command.Element.{Element}
+use Rattle.vk_model.specs.declared.command.Families.{Families}
+use Rattle.vk_model.specs.Trace.Objects.{is_exclusive}
 use Rattle.vk_model.specs.Trace.Point.{Past, Point}
 use Rattle.vk_model.specs.World.Bytes.{World, Owner, Family, Released}
 use Rattle.vk_model.specs.World.Effect.{world, after_element}
-use Rattle.vk_model.specs.World.Ownership.{family_of, is_release}
+use Rattle.vk_model.specs.World.Ownership.{family_of, is_release, named_by, families_of}
 use Rattle.vk_model.specs.Sync.Node.{Node, Depends, Barrier, nodes}
 use Rattle.vk_model.specs.Sync.Edge.{earlier}
 use Rattle.vk_model.specs.Sync.Before.{before}
-use Rattle.vk_model.specs.Rules.Owners.{is_released, is_release_of, releases_resource}
+use Rattle.vk_model.specs.Rules.Owners.{families_differ, is_released, is_release_of, releases_resource}
 use Rattle.vk_order.specs.Wide.{IsApartFrom}
 use Rattle.vk_touches.specs.Touched.{next_node}
 use Rattle.vk_rules.specs.declared.halves.Changed.{Changed}
+use Rattle.vk_rules.specs.declared.owners.OwnerFault.{OwnerFault}
+use Rattle.vk_rules.specs.declared.owners.Unpaired.{Unpaired}
+use Rattle.vk_rules.specs.Owners.{IsFault}
 
 -- Node n is of an element that comes at a point after some others of its barrier: it comes after the earlier points as if it came alone, and where those others don't release a resource, its last release is the last of the earlier points (profile).
 pub record ComesAfter (past : Past) (p : Point) (done : List Element) (all : List Node) (n : Node) (e : Element) : Type 0 where
@@ -43,3 +48,15 @@ abbrev pub Judges : (List Node → World → Node → Bool) → Past → Point �
 Judges is_bad past p e old new bad =
     (done : List Element) (w : World) (all : List Node) (n : Node) → ComesAfter past p done all n e → AreChanged old past p.queue done w
     → (bad ≡ is_bad all w n) × (bad ≡ false → AreChanged new past p.queue (done ++ e ∷ []) (after_element past (family_of p.queue) w e))
+
+-- This doesn't fit of an element that names a resource and families, whatever of what is kept holds before it.
+abbrev pub IsFaultNow : Past → Point → Element → ℕ → Families → Changed → OwnerFault → Type 0
+IsFaultNow past p e r t old f = (done : List Element) (w : World) → AreChanged old past p.queue done w → IsFault p.queue e t (is_exclusive past r) (w.owner r) f
+
+-- What is reported of element k, by what is kept before it.
+pub record IsUnpairedAt (past : Past) (p : Point) (k : ℕ) (e : Element) (old : Changed) (m : Unpaired) : Type 0 where
+  pub index : m.element ≡ k
+  pub resource : named_by e ≡ Some m.resource
+  pub families : families_of e ≡ Some m.families
+  pub differ : families_differ m.families ≡ true
+  pub fault : IsFaultNow past p e m.resource m.families old m.fault

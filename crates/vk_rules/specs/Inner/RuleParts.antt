@@ -1,21 +1,15 @@
 -- Parts of rules, as single functions answer them.
 use Rattle.std.specs.Prelude.{ℕ, ◌+◌, ◌*◌, ◌%◌, ◌==◌, ◌&&◌, ◌||◌, ◌∷◌, List, Bool, not, nat_lt, option_and_then}
 use Rattle.std.specs.List.{list_any}
-use Rattle.vk_model.specs.declared.command.SubresourceRange.{SubresourceRange}
 use Rattle.vk_model.specs.declared.entry.Entry.{Entry}
 use Rattle.vk_model.specs.declared.resource.Place.{Place}
 use Rattle.vk_model.specs.Basics.{holds}
-use Rattle.vk_model.specs.Trace.Objects.{Resource, image, pool, memory, pool_at, pool_of, live, bound_at, type_at}
+use Rattle.vk_model.specs.Trace.Objects.{Resource, pool, memory, pool_at, pool_of, live, bound_at, type_at}
 use Rattle.vk_model.specs.Trace.Point.{Past, Point}
-use Rattle.vk_model.specs.World.Areas.{Box}
-use Rattle.vk_model.specs.World.Bytes.{Byte, resource_at}
 use Rattle.vk_model.specs.Rules.Binding.{is_aliased}
-use Rattle.vk_model.specs.Rules.Passes.{moves_now}
-use Rattle.vk_model.specs.Sync.Node.{Act, Hosts, nodes}
+use Rattle.vk_model.specs.Sync.Node.{Hosts, nodes}
 use Rattle.vk_model.specs.Sync.Complete.{is_busy}
-use Rattle.vk_model.specs.Sync.Access.{writes_of}
 use Rattle.vk_model.specs.Rules.Ids.{Asked, is_dead, is_resource, judged_in}
-use Rattle.vk_model.specs.Rules.Ranges.{bad_box, bad_range}
 use Rattle.vk_touches.specs.Touched.{next_node}
 
 -- Whether an id isn't a live object of the kind asked, as the ids of a point are judged.
@@ -37,22 +31,6 @@ ends_past_object past q n = holds (bound_at q) (λ s. holds (memory past s.0) (�
 -- Whether the offset of a place in a memory object isn't a multiple of an alignment, and on memory of type 2 of 64.
 abbrev pub is_misplaced_at : Past → Place → ℕ → Bool
 is_misplaced_at past q align = holds (bound_at q) (λ s. not (s.1 % align == 0) || holds (type_at past q) (λ t. t == 2) && not (s.1 % 64 == 0))
-
--- Whether a box isn't of an image.
-abbrev pub some_box_outside : {A : Type 0} → Past → ℕ → (A → Box) → List A → Bool
-some_box_outside past i of gs = holds (image past i) (λ m. list_any (λ g. bad_box m (of g)) gs)
-
--- Whether a range of subresources isn't.
-abbrev pub some_range_outside : Past → ℕ → List SubresourceRange → Bool
-some_range_outside past i rs = holds (image past i) (λ m. list_any (bad_range m) rs)
-
--- Whether one of some bytes is of a resource whose pool is in a pass.
-abbrev pub touches_moving : Past → List Byte → Bool
-touches_moving past bs = list_any (λ b. moves_now past (resource_at b)) bs
-
--- Whether one of some acts on a queue writes such a byte.
-abbrev pub writes_moving : Past → ℕ → List Act → Bool
-writes_moving past q as' = list_any (λ a. touches_moving past (writes_of past q a)) as'
 
 -- Whether a resource conflicts with a live one in the memory object that it's bound to.
 abbrev pub is_aliased_at : Past → Resource → Bool

@@ -1,5 +1,0 @@
-use Rattle.std.proofs.Common.{Err, ap}
-use Rattle.vk_explain.proofs.explaining.explanation_of.Goals as goal
-
-pub no_trace-requires : goal.no_trace-requires
-no_trace-requires c = c.in-Err-NotTrace.ensures.none (ap Err c.in-Err-NotTrace.field-0-is)

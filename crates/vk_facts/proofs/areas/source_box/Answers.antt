@@ -1,9 +1,0 @@
-use Rattle.std.proofs.Common.{refl, arith}
-use Rattle.vk_facts.proofs.AreaLemmas.{area_of_box}
-use Rattle.vk_facts.proofs.areas.source_box.Goals as goal
-
-pub returns : goal.returns
-returns c =
-    let g = c.args.region.now in
-    area_of_box c.args.image c.args.texel g.source_level g.source_first_layer g.source_x g.source_y g.layers g.height g.width _ refl refl refl refl refl refl
-    (record { inner = omega arith; outer = λ k a b. omega arith }) (record { inner = omega arith; outer = λ k a b. omega arith }) (record { inner = omega arith; outer = λ k a b. omega arith })

@@ -1,5 +1,0 @@
-use Rattle.vk_facts.proofs.HazardLemmas.{none_of_texels}
-use Rattle.vk_facts.proofs.past.Past.missing_in_texels.Goals as goal
-
-pub returns : goal.returns
-returns c = λ x y pair b has_it. none_of_texels c.args.self.now c.args.hazard x y c.args.texels.now c.loop-layer.layer c.loop-layer-test.false (c.loop-layer.invariant x y pair) b has_it

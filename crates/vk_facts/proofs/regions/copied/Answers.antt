@@ -1,7 +1,0 @@
-use Rattle.std.proofs.Common.{◌∷◌, []}
-use Rattle.vk_model.specs.Sync.Access.{bytes_of}
-use Rattle.vk_facts.proofs.AreaLemmas.{added}
-use Rattle.vk_facts.proofs.regions.copied.Goals as goal
-
-pub loop-region-preserved : goal.loop-region-preserved
-loop-region-preserved c = added (λ g. bytes_of c.args.source g.source_offset g.size) c.args.regions.now c.loop-region.region-index _ c.loop-region.areas.items _ (c.bytes.result ∷ []) c.in_ok-push.ensures.items c.loop-region-test.true c.loop-region.invariant c.bytes.ensures

@@ -1,8 +1,0 @@
-use Rattle.std.proofs.Common.{take}
-use Rattle.std.specs.List.{flat_map}
-use Rattle.vk_model.specs.Sync.Access.{bytes_of}
-use Rattle.vk_facts.specs.Areas.{AreAreas}
-use Rattle.vk_facts.proofs.regions.copied.Given as goal
-
-abbrev pub invariant-loop-region : goal.invariant-loop-region
-invariant-loop-region l = AreAreas l.areas.items (flat_map (λ g. bytes_of l.source g.source_offset g.size) (take l.region-index l.regions))

@@ -1,7 +1,0 @@
-use Rattle.std.proofs.Common.{rules}
-use Rattle.vk_facts.specs.Inner.Parts.{region_bytes}
-use Rattle.vk_facts.proofs.AreaLemmas.{added}
-use Rattle.vk_facts.proofs.regions.rows.Goals as goal
-
-pub loop-region-preserved : goal.loop-region-preserved
-loop-region-preserved c = added (region_bytes c.args.buffer c.args.texel) c.args.regions.now c.loop-region.region-index _ c.loop-region.areas.items _ c.in_ok-more.more.items (search rules) c.loop-region-test.true c.loop-region.invariant c.in_ok-more.ensures

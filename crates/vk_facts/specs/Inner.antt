@@ -1,4 +1,0 @@
--- What only the contracts within the crate cite.
-pub mod IsRead
-pub mod Parts
-pub mod Pairs

@@ -1,0 +1,9 @@
+use Rattle.std.proofs.Common.{refl, arith}
+use Rattle.vk_hazards.proofs.AreaLemmas.{area_of_box}
+use Rattle.vk_hazards.proofs.areas.region_box.Goals as goal
+
+pub returns : goal.returns
+returns c =
+    let g = c.args.region.now in
+    area_of_box c.args.image c.args.texel g.level g.first_layer g.x g.y g.layers g.height g.width _ refl refl refl refl refl refl
+    (record { inner = omega arith; outer = λ k a b. omega arith }) (record { inner = omega arith; outer = λ k a b. omega arith }) (record { inner = omega arith; outer = λ k a b. omega arith })

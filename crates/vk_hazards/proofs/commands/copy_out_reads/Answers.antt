@@ -1,0 +1,19 @@
+use Rattle.std.proofs.Common.{List, Option, None, sym, subst}
+use Rattle.std.specs.List.{flat_map}
+use Rattle.vk_model.specs.declared.resource.ImageInfo.{ImageInfo}
+use Rattle.vk_model.specs.World.ByteWrites.{copy_out_writes}
+use Rattle.vk_model.specs.Sync.Access.{origins}
+use Rattle.vk_hazards.specs.declared.areas.Area.{Area}
+use Rattle.vk_hazards.specs.Areas.{AreAreas}
+use Rattle.vk_hazards.proofs.CommandAreas.{some_out_reads, none_out_reads}
+use Rattle.vk_hazards.proofs.commands.copy_out_reads.Goals as goal
+
+pub returns-in_default : goal.returns-in_default
+returns-in_default c = λ b.
+    subst (λ (o : Option ImageInfo). AreAreas c.new.result.items (origins (flat_map (copy_out_writes c.args.image b o) c.args.regions.now))) (sym c.in_default.is)
+    (subst (λ (l : List Area). AreAreas l (origins (flat_map (copy_out_writes c.args.image b None) c.args.regions.now))) (sym c.new.ensures.items) (none_out_reads b c.args.image c.args.regions.now))
+
+pub returns : goal.returns
+returns c = λ b.
+    subst (λ (o : Option ImageInfo). AreAreas c.in_ok-areas.areas.items (origins (flat_map (copy_out_writes c.args.image b o) c.args.regions.now))) (sym c.in-Some.is)
+    (some_out_reads c.in-Some.info c.texel_size.result c.texel_size.ensures.size c.in_ok-areas.areas.items b c.args.image c.args.regions.now c.in_ok-areas.ensures)

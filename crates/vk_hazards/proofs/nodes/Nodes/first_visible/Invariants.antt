@@ -1,0 +1,9 @@
+use Rattle.vk_order.specs.Bytes.{byte_of}
+use Rattle.vk_order.specs.Wide.{access_of}
+use Rattle.vk_hazards.specs.Hazards.{node_at}
+use Rattle.vk_hazards.specs.Links.{shows_host}
+use Rattle.vk_hazards.proofs.FirstLemmas.{NoneBelow}
+use Rattle.vk_hazards.proofs.nodes.Nodes.first_visible.Given as goal
+
+abbrev pub invariant-loop-number : goal.invariant-loop-number
+invariant-loop-number l = NoneBelow l.self (shows_host l.self (node_at l.pair.write.by) (node_at l.pair.later) (access_of l.pair.access) (byte_of l.pair.write.byte)) l.number

@@ -1,0 +1,8 @@
+use Rattle.std.proofs.Common.{take}
+use Rattle.std.specs.List.{flat_map}
+use Rattle.vk_hazards.specs.Inner.Parts.{destination_bytes}
+use Rattle.vk_hazards.specs.Areas.{AreAreas}
+use Rattle.vk_hazards.proofs.regions.destinations.Given as goal
+
+abbrev pub invariant-loop-region : goal.invariant-loop-region
+invariant-loop-region l = AreAreas l.areas.items (flat_map (destination_bytes l.image l.texel) (take l.region-index l.regions))

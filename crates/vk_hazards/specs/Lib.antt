@@ -1,0 +1,11 @@
+pub mod Lives
+pub mod Strays
+pub mod Counters
+pub mod Areas
+pub mod Hazards
+pub mod Latest
+pub mod Facts
+pub mod Links
+pub mod Faults
+pub mod Laws
+pub mod Inner

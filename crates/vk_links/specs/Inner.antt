@@ -1,4 +1,0 @@
--- What only the contracts within the crate cite.
-pub mod IsKept
-pub mod Availability
-pub mod Found

@@ -1,4 +1,0 @@
-pub mod Links
-pub mod Faults
-pub mod Laws
-pub mod Inner

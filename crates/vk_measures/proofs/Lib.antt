@@ -1,2 +1,0 @@
-pub mod PastLengths
-pub mod SpanLemmas

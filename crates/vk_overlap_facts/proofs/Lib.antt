@@ -1,3 +1,0 @@
-mod Walks
-mod FinderLemmas
-mod AreaLemmas

@@ -1,4 +1,0 @@
-pub mod Commons
-pub mod Parts
-pub mod Overlaps
-pub mod Inner

@@ -1,9 +1,0 @@
-pub mod ListSteps
-pub mod ObjectLemmas
-pub mod DefragLemmas
-pub mod PassLemmas
-pub mod ActLemmas
-pub mod CommandLemmas
-pub mod NewestLemmas
-pub mod TimelineLemmas
-pub mod BusyLemmas

@@ -1,9 +1,0 @@
-pub mod Layouts
-pub mod Mapping
-pub mod Events
-pub mod Signals
-pub mod Owners
-pub mod Transfers
-pub mod Binding
-pub mod States
-pub mod Inner
