@@ -35,9 +35,11 @@ enum zw_order { ZW_FIRST = 0, ZW_LAST = 1, ZW_SEED = 2 };
 
 /* What zw_explain writes. */
 enum zw_form {
-    ZW_TEXT = 0,    /* lines for people, the verdict first */
-    ZW_JSON = 1,    /* an object */
-    ZW_REPAIRED = 2 /* the trace after repairs; the status is the verdict on that one */
+    ZW_TEXT = 0,     /* lines for people, the verdict first */
+    ZW_JSON = 1,     /* an object */
+    ZW_REPAIRED = 2, /* the trace after repairs; the status is the verdict on that one */
+    ZW_JSON_REPAIRED = 3 /* the object, with each repair and the trace after them; the status is the verdict on the
+                          * given one */
 };
 
 /* The least, the default and the greatest size of a heap in bytes. */

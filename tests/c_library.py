@@ -22,7 +22,7 @@ from harness import EXPLAIN, PROGRAM, TOP, Skipped, Test, answered, difference, 
 
 sys.path.append(str(TOP / "tools"))
 
-from zorthewin.library import JSON, NO_TRACE, REPAIRED, TEXT, Library
+from zorthewin.library import JSON, JSON_REPAIRED, NO_TRACE, REPAIRED, TEXT, Library
 
 EXAMPLES = TOP / "examples"
 HEADER = f"-I{TOP / 'c'}"
@@ -72,9 +72,10 @@ def judge_all(judge):
 
 
 def judge_python(trace):
-    """Through ctypes all three forms and a replay in each order are what the programs write."""
+    """Through ctypes all forms and a replay in each order are what the programs write."""
     library = Library(f"{FOLDER}/libzorthewin.so.0")
-    for option, form in (((), TEXT), (("--json",), JSON), (("--repaired",), REPAIRED)):
+    both = ("--json", "--repaired")
+    for option, form in (((), TEXT), (("--json",), JSON), (("--repaired",), REPAIRED), (both, JSON_REPAIRED)):
         status, said = library.explain(trace, form)
         came = run([EXPLAIN, *option], trace)
         # (what repairs change the program says on standard error)

@@ -107,6 +107,7 @@ def several_tests():
     command = [EXPLAIN, file_of(ACCEPTED), "-"]
     yield compared("explain FILE - < FILE", answered(both, 1), command, text_of(BROKEN))
     yield Test("explain --repaired FILE FILE", judge_several_repaired)
+    yield Test("explain --json --repaired FILE FILE", judge_several_objects)
 
 
 def judge_several_repaired():
@@ -115,6 +116,16 @@ def judge_several_repaired():
     wanted = (b"", REFUSED, True)
     came = (answer.output, answer.status, answer.error.startswith(b"error: "))
     return difference(wanted, came)
+
+
+def judge_several_objects():
+    """With --json, too, each object has the repaired trace, and the verdicts are on the given ones."""
+    files = [file_of(BROKEN), file_of(ACCEPTED)]
+    answer = run([EXPLAIN, "--json", "--repaired", *files])
+    said = [json.loads(line) for line in answer.output.splitlines()]
+    came = [(one["file"], one["verdict"], one["repaired"]["verdict"], len(one["repairs"])) for one in said]
+    wanted = [(files[0], "refused", "accepted", 1), (files[1], "accepted", "accepted", 0)]
+    return difference((wanted, 1, b""), (came, answer.status, answer.error))
 
 
 # Formats of images of which neither can be copied to the other: their texels have other sizes.

@@ -5,7 +5,8 @@ that are refused.
     EXPLAIN=FILE tests/explained_objects.py
 
 Each fits docs/explanation.schema.json (skipped without jsonschema 4 or later). The edits of a repair are operations of
-JSON Patch: with them the trace has the verdict that the object says. The identifiers of a refusal are some of those for
+JSON Patch: with them the trace has the verdict that the object says. With `--repaired` the edits of all repairs, one after
+another, make the trace that the object ends with, which is the one that `--repaired` writes alone. The identifiers of a refusal are some of those for
 which the rule book says that the rule stands, and each of these is known to the program.
 """
 
@@ -16,7 +17,7 @@ import sys
 
 sys.dont_write_bytecode = True
 
-from harness import EXPLAIN, TOP, Skipped, Test, main, run
+from harness import EXPLAIN, TOP, Skipped, Test, difference, main, run
 
 sys.path.insert(0, str(TOP / "tools"))
 from drawing import draw
@@ -35,9 +36,9 @@ STATIC = re.compile(r"static ([A-Z_]+): \[&str; \d+\] = \[(.*?)\];", re.S)
 TABLES = sorted((TOP / "crates" / "vk_identifiers" / "src").glob("*.rt"))
 
 
-def explained(text):
+def explained(text, *options):
     """The object on a text."""
-    return json.loads(run([EXPLAIN, "--json"], text).output)
+    return json.loads(run([EXPLAIN, "--json", *options], text).output)
 
 
 def patched(trace, edits):
@@ -74,12 +75,33 @@ def repaired(text):
     return None if came == repair["then"] else f"{came}, not {repair['then']}, after {repair['edits']}"
 
 
+def all_repaired(text):
+    """What differs between an object with all repairs, what comes of their edits, and what --json and --repaired write."""
+    answer = run([EXPLAIN, "--json", "--repaired"], text)
+    said = json.loads(answer.output)
+    alone = explained(text)
+    wanted = alone if alone["verdict"] == "no trace" else {**alone, "repairs": said["repairs"], "repaired": said["repaired"]}
+    found = difference((wanted, b""), (said, answer.error))
+    if found or "repaired" not in said:
+        return found
+    trace = json.loads(text)
+    for repair in said["repairs"]:
+        trace = patched(trace, repair["edits"])
+    last = said["repairs"][-1]["then"] if said["repairs"] else verdict(alone)
+    written = json.loads(run([EXPLAIN, "--repaired"], text).output)
+    came = said["repaired"]
+    return difference((last.split()[0], written, written), (came["verdict"], came["trace"], trace))
+
+
 def fitting(text):
     """What doesn't fit the schema."""
     if Draft202012Validator is None:
         raise Skipped("jsonschema 4 or later isn't installed")
-    errors = Draft202012Validator(json.loads(SCHEMA.read_text(encoding="utf-8"))).iter_errors(explained(text))
-    return next((f"{error.json_path}: {error.message}" for error in errors), None)
+    validator = Draft202012Validator(json.loads(SCHEMA.read_text(encoding="utf-8")))
+    for options in ((), ("--repaired",)):
+        for error in validator.iter_errors(explained(text, *options)):
+            return f"{options}: {error.json_path}: {error.message}"
+    return None
 
 
 def book():
@@ -150,6 +172,7 @@ def tests():
     for name, text in texts():
         yield Test(f"{name}: its form", lambda text=text: fitting(text))
         yield Test(f"{name}: its repair", lambda text=text: repaired(text) if text.startswith(b"[") else None)
+        yield Test(f"{name}: all repairs", lambda text=text: all_repaired(text))
         yield Test(f"{name}: its identifiers", lambda text=text: named(text))
 
 

@@ -279,7 +279,7 @@ def judge_object():
     wanted = json.loads(run([EXPLAIN, "--json"], UNCOMMENTED.encode()).output)
     if (wanted["line"], wanted["column"]) != (READ_LINE, 35):
         return f"the place isn't there: {wanted}"
-    wanted["column"] = READ_COLUMN
+    wanted["column"] = wanted["values"]["later"]["column"] = READ_COLUMN
     answer = run([*NAMES, "--explain", "--json"], COMMENTED.encode())
     return difference((wanted, 1, b""), (json.loads(answer.output), answer.status, answer.error))
 

@@ -4,7 +4,7 @@ import ctypes
 import os
 
 REFUSED, NO_TRACE, STOPPED, NO_MEMORY = 1, 2, 3, 4
-TEXT, JSON, REPAIRED = 0, 1, 2
+TEXT, JSON, REPAIRED, JSON_REPAIRED = 0, 1, 2, 3
 ORDERS = {"first": 0, "last": 1, "seed": 2}
 DEFAULT_HEAP = 4_194_304
 
@@ -41,7 +41,7 @@ class Library:
         return self.answer(self.replay_call, trace, ORDERS[order], seed, *heaps)
 
     def explain(self, trace, form=TEXT):
-        """What `explain` says, as lines or as an object, or the trace after repairs."""
+        """What `explain` says, as lines or as an object, or the trace after repairs, or both."""
         return self.answer(self.explain_call, trace, form)
 
 
