@@ -173,5 +173,5 @@ pub fn align(case: &Case<'_>, found: &mut Candidates) -> Result<(), AllocError> 
             word: *word,
         },
     )?;
-    found.add_weaker(edits)
+    found.add(edits)
 }

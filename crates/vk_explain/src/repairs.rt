@@ -188,7 +188,7 @@ pub fn words_of(alloc: Global, trace: &[Entry], found: &Repair) -> Result<Repair
         .edits
         .as_slice()
         .iter()
-        .any(|edit| names_other_rows(trace, edit));
+        .any(|edit| names_other_bytes(trace, edit));
     Ok(RepairWords {
         then,
         weaker: found.weaker || is_elsewhere,
@@ -197,8 +197,9 @@ pub fn words_of(alloc: Global, trace: &[Entry], found: &Repair) -> Result<Repair
     })
 }
 
-/// Whether an edit replaces a copy between a buffer and an image by one with other rows of the buffer.
-fn names_other_rows(trace: &[Entry], edit: &Edit) -> bool {
+/// Whether an edit replaces a fill, or a copy between a buffer and an image, by one of other bytes of the
+/// buffer.
+fn names_other_bytes(trace: &[Entry], edit: &Edit) -> bool {
     let Edit::Member {
         change: Change::Replace,
         at,
@@ -208,6 +209,16 @@ fn names_other_rows(trace: &[Entry], edit: &Edit) -> bool {
         return false;
     };
     match (command_at(trace, *at), command) {
+        (
+            Some(
+                Cmd::Fill {
+                    offset: given,
+                    size: length,
+                    ..
+                },
+            ),
+            Cmd::Fill { offset, size, .. },
+        ) => given != offset || length != size,
         (Some(Cmd::CopyIn { regions: given, .. }), Cmd::CopyIn { regions, .. }) => {
             are_other_rows(given.as_slice(), regions.as_slice())
         }
