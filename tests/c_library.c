@@ -71,7 +71,7 @@ static int edges(void) {
     for (unsigned order = 3; order < 256; order++)
         if (zw_replay(trace, LEN, (uint8_t)order, 0, HEAP, HEAP, out, 8, &length) != ZW_NO_ARGUMENT || length)
             return 3;
-    for (unsigned form = 3; form < 256; form++)
+    for (unsigned form = 4; form < 256; form++)
         if (zw_explain(trace, LEN, (uint8_t)form, out, 8, &length) != ZW_NO_ARGUMENT || length)
             return 4;
     static const uint64_t sizes[] = {0, HEAP - 1, ZW_GREATEST_HEAP + 1ull, UINT64_MAX};
