@@ -33,7 +33,7 @@ DRAWN, SEED = 60, 5500
 SCHEMA = TOP / "docs" / "explanation.schema.json"
 RULE_BOOK = [TOP / "docs" / name for name in ("RULES.md", "RULES_HAZARDS.md")]
 STATIC = re.compile(r"static ([A-Z_]+): \[&str; \d+\] = \[(.*?)\];", re.S)
-TABLES = sorted((TOP / "crates" / "vk_identifiers" / "src").glob("*.rt"))
+TABLES = TOP / "crates" / "vk_fact_words" / "src" / "identifier_tables.rt"
 
 
 def explained(text, *options):
@@ -122,11 +122,10 @@ def book():
 def table():
     """The same by the program's sources."""
     found = {}
-    for source in TABLES:
-        for rule, items in STATIC.findall(source.read_text(encoding="utf-8")):
-            identifiers = re.findall(r'"(VUID-[^"]+)"', items)
-            if identifiers:
-                found[rule] = set(identifiers)
+    for rule, items in STATIC.findall(TABLES.read_text(encoding="utf-8")):
+        identifiers = re.findall(r'"(VUID-[^"]+)"', items)
+        if identifiers:
+            found[rule] = set(identifiers)
     return found
 
 

@@ -1,5 +1,5 @@
 use std::alloc::{AllocError, Global};
-use vk_identifiers::{hazard_name, identifiers_of, right_in_vulkan};
+use vk_fact_words::{hazard_name, identifiers_of, right_in_vulkan};
 use vk_model::{At, Entry, Rule};
 
 /// How many identifiers a text names at most.

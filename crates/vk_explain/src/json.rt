@@ -6,18 +6,18 @@ ghost use Rattle.vk_findings.specs.Reports.{IsReport};
 ghost use Rattle.vk_explain.specs.Explained.{json_verdict, IsRefusalJson, IsAcceptanceJson};
 
 use crate::identifiers::push_identifier_members;
+use crate::notes::{note_words, notes_of};
 use crate::repairs::{EditWords, RepairSearch, RepairWords, sought, words_of};
+use crate::summary::{Summary, summary_of};
 use std::alloc::{AllocError, Global};
 use vk_fact_words::{
-    cause_member, either_way_member, fact_member, finding_member, links_member, points_named,
-    push_quoted, values_member,
+    cause_member, either_way_member, fact_member, finding_member, is_unknown_here, links_member,
+    points_named, push_quoted, values_member,
 };
 use vk_findings::Report;
 use vk_hazards::{Fact, Links};
-use vk_identifiers::is_unknown_here;
 use vk_mistakes::{place_of, push_pointer};
 use vk_model::{At, Entry, Rule};
-use vk_notes::{Summary, note_words, notes_of, summary_of};
 use vk_words::{point_words, push_at, sentence};
 
 /// The object on a refused trace: verdict, point, rule, the fact that is reported of it, the

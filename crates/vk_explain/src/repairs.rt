@@ -3,11 +3,11 @@ ghost use Rattle.vk_model.specs.Rules.Table.{first_fault};
 ghost use Rattle.vk_explain.specs.Inner.Repaired.{IsSought};
 
 use crate::listing::{Listed, in_listed_order};
+use crate::summary::summary_of;
 use std::alloc::{AllocError, Global};
 use vk_candidates::{Change, Edit, InBatch, Member};
-use vk_identifiers::is_unknown_here;
+use vk_fact_words::is_unknown_here;
 use vk_model::{At, BufferImageCopy, Cmd, Entry, Rule};
-use vk_notes::summary_of;
 use vk_repairs::{Repair, repair};
 use vk_words::{point_words, push_at};
 use vk_writer::{command_json, entry_json, submit_json};

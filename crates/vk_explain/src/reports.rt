@@ -7,7 +7,9 @@ ghost use Rattle.vk_findings.specs.Reports.{IsReport};
 ghost use Rattle.vk_explain.specs.Explained.{rule_line, IsRefusalText, IsAcceptanceText};
 
 use crate::identifiers::identifier_lines;
+use crate::notes::{MOST_NOTES, note_words, notes_of};
 use crate::repairs::repair_lines;
+use crate::summary::{Summary, summary_of};
 use std::alloc::{AllocError, Global};
 use vk_fact_words::{
     cause_lines, either_way_line, fact_line, finding_line, links_line, points_named,
@@ -16,7 +18,6 @@ use vk_findings::Report;
 use vk_hazards::{Fact, Links};
 use vk_mistakes::place_of;
 use vk_model::{At, Entry, Rule};
-use vk_notes::{MOST_NOTES, Summary, note_words, notes_of, summary_of};
 use vk_trace::Outcome;
 use vk_words::{point_words, push_count, sentence};
 

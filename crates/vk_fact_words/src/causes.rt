@@ -1,9 +1,8 @@
 use crate::facts::push_byte;
 use crate::quoting::push_quoted;
 use std::alloc::{AllocError, Global};
-use vk_hazards::{Cause, IdleBarrier, IdleCause, Loss, Signaler, Undefined, User};
+use vk_hazards::{Cause, IdleBarrier, IdleCause, Loss, Signaler, Undefined, User, at_of};
 use vk_model::{At, Entry};
-use vk_past::at_of;
 use vk_words::{point_words, push_at};
 
 /// The lines on why a byte is undefined, what uses the object that ends, what would signal the value that

@@ -2,10 +2,9 @@ ghost use Rattle.std.specs.Prelude.{◌≡◌, ◌++◌, OnOk, IfOk, Some, strin
 ghost use Rattle.vk_fact_words.specs.FactText as text;
 
 use std::alloc::{AllocError, Global};
-use vk_hazards::{CounterFact, DeadId, Fact, HazardFact, Life, ObjectKind, StrayId};
+use vk_hazards::{CounterFact, DeadId, Fact, HazardFact, Life, ObjectKind, StrayId, at_of};
 use vk_model::{At, Point};
 use vk_order::Byte;
-use vk_past::at_of;
 use vk_words::{kind_name, push_at, push_number};
 
 /// Adds what is said of a fact.

@@ -1,7 +1,7 @@
 use std::alloc::AllocError;
 use vk_findings::{MovingResource, NoPass, OpenDefrag, OpenPass, PassState};
+use vk_hazards::at_of;
 use vk_model::Point;
-use vk_past::at_of;
 use vk_words::push_at;
 
 /// PASS_STATE: what a point doesn't fit.

@@ -1,6 +1,6 @@
 use std::alloc::AllocError;
+use vk_hazards::at_of;
 use vk_model::Point;
-use vk_past::at_of;
 use vk_words::push_at;
 
 /// Adds how a point is reported.

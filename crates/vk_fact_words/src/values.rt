@@ -1,9 +1,9 @@
 use bitflags::Flags;
 use std::alloc::{AllocError, Global};
+use vk_hazards::at_of;
 use vk_mistakes::place_of;
 use vk_model::{At, Layout, Length, Point};
 use vk_order::Byte;
-use vk_past::at_of;
 use vk_rules::Item;
 use vk_words::{push_at, push_layout};
 

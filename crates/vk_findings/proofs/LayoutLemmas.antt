@@ -17,7 +17,7 @@ use Rattle.vk_laws.proofs.Forms.Unchanged.{used_layout, ready_layout, host_layou
 use Rattle.vk_model.specs.declared.point.Point.{Point as ProgramPoint}
 use Rattle.vk_model.specs.Trace.PointViews.{point_of}
 use Rattle.vk_queues.specs.PointViews.{past_of}
-use Rattle.vk_past.proofs.PastLemmas.{past_item, past_push}
+use Rattle.vk_hazards.proofs.PastLemmas.{past_item, past_push}
 use Rattle.vk_findings.specs.Layouts.{takes_place, names_at, changes_at, transitions}
 use Rattle.vk_findings.specs.Inner.LayoutSteps.{elements_in, layout_by, layout_by_point, layout_in, new_layout_of, takes_some, ShowLayouts}
 

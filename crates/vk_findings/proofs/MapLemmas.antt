@@ -9,7 +9,7 @@ use Rattle.vk_model.specs.Trace.Point.{Past, Point, host_of, entries, on_host}
 use Rattle.vk_model.specs.declared.point.Point.{Point as ProgramPoint}
 use Rattle.vk_model.specs.Trace.PointViews.{point_of}
 use Rattle.vk_queues.specs.PointViews.{past_of}
-use Rattle.vk_past.proofs.PastLemmas.{past_item}
+use Rattle.vk_hazards.proofs.PastLemmas.{past_item}
 use Rattle.vk_findings.specs.Inner.Mapping.{counted, is_form}
 
 module _ (past : Past) (form : Entry → Option ℕ) (k : ℕ) where

@@ -8,9 +8,9 @@ ghost use Rattle.vk_rules.specs.Synchronization as unordered;
 ghost use Rattle.vk_findings.specs.Signals.{IsSignalOrder};
 
 use std::alloc::AllocError;
+use vk_hazards::{Doing, latest, signal_of};
 use vk_history::History;
 use vk_model::Point;
-use vk_past::{Doing, latest, signal_of};
 use vk_rules::UnorderedSignal;
 
 /// SIGNAL_ORDER: a signal, and the last one of the same semaphore before it.

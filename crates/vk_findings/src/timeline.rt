@@ -11,10 +11,10 @@ ghost use Rattle.vk_findings.specs.Inner.Uses.{AreBeforeTo, IsBeforeAt, IsIncomp
 
 use crate::named::{Spot, named_by};
 use std::alloc::{AllocError, Global};
+use vk_hazards::{all_rows, order_of};
 use vk_history::History;
 use vk_model::Point;
 use vk_order::{Points, Row};
-use vk_past::{all_rows, order_of};
 
 /// How far a command has come, for a resource.
 #[derive(Clone, Copy)]

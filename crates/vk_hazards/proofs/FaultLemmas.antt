@@ -14,7 +14,7 @@ use Rattle.vk_model.proofs.Rules.Fault.{first_of_fault}
 use Rattle.vk_model.proofs.Trace.Once.{come_once}
 use Rattle.vk_model.proofs.Trace.Structure.{order_ordered}
 use Rattle.vk_model.proofs.Trace.Older.{comes_has}
-use Rattle.vk_past.specs.Until.{IsNowhere, IsUntil}
+use Rattle.vk_hazards.specs.Until.{IsNowhere, IsUntil}
 use Rattle.vk_hazards.specs.declared.facts.Fact.{Fact}
 use Rattle.vk_model.specs.Sync.Node.{nodes}
 use Rattle.vk_hazards.specs.declared.hazards.Hazard.{Hazard}

@@ -1,3 +1,7 @@
+pub mod PastLemmas
+pub mod CreatorLemmas
+pub mod DoingLemmas
+pub mod UntilLemmas
 pub mod Members
 pub mod AreaLemmas
 pub mod CommandAreas

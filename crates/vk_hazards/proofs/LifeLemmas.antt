@@ -7,8 +7,8 @@ use Rattle.vk_model.specs.Rules.Ids.{Asked as AskedIds, asked_by, judged_in, is_
 use Rattle.vk_model.proofs.Lists.Members.{map_has, any_map}
 use Rattle.vk_model.specs.declared.point.Point.{Point as ProgramPoint}
 use Rattle.vk_model.specs.Trace.PointViews.{point_of}
-use Rattle.vk_past.specs.declared.doings.Doing.TheVariants.{Makes}
-use Rattle.vk_past.specs.Doings.{does}
+use Rattle.vk_hazards.specs.declared.before.doings.Doing.TheVariants.{Makes}
+use Rattle.vk_hazards.specs.Doings.{does}
 use Rattle.vk_hazards.specs.declared.asked.Asked.{Asked}
 use Rattle.vk_hazards.specs.declared.lives.Life.{Life}
 use Rattle.vk_hazards.specs.Lives.{asked_of, kind_test, IsLife, IsDead}

@@ -18,7 +18,7 @@ use Rattle.vk_hazards.specs.declared.hazards.HazardFact.{HazardFact}
 use Rattle.vk_hazards.specs.Facts.{IsHazardOf, IsSo, IsReportedOf}
 use Rattle.vk_model.specs.Sync.Access.{is_in}
 use Rattle.vk_hazards.specs.Hazards.{node_at, is_missing, earlier_bytes, later_bytes}
-use Rattle.vk_past.specs.Until.{IsNowhere, IsUntil}
+use Rattle.vk_hazards.specs.Until.{IsNowhere, IsUntil}
 use Rattle.vk_hazards.proofs.FaultLemmas.{same_point}
 use Rattle.vk_hazards.specs.declared.links.Links.{Links}
 use Rattle.vk_hazards.specs.Links.{AreLinks}

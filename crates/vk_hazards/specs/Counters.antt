@@ -8,8 +8,8 @@ use Rattle.vk_model.specs.Trace.Point.{Past, Point, host_of}
 use Rattle.vk_model.specs.Trace.Order.{counter, signal_of}
 use Rattle.vk_model.specs.Rules.Synchronization.{breaks_signal_value, breaks_wait_never}
 use Rattle.vk_model.specs.Trace.PointViews.{point_of}
-use Rattle.vk_past.specs.declared.doings.Doing.TheVariants.{Signals}
-use Rattle.vk_past.specs.Doings.{does}
+use Rattle.vk_hazards.specs.declared.before.doings.Doing.TheVariants.{Signals}
+use Rattle.vk_hazards.specs.Doings.{does}
 use Rattle.vk_hazards.specs.declared.counters.CounterFact.{CounterFact}
 
 -- The counter of a semaphore, and the newest point of a past that signaled it.

@@ -1,3 +1,6 @@
+pub mod Creators
+pub mod Doings
+pub mod Until
 pub mod Lives
 pub mod Strays
 pub mod Counters

@@ -6,8 +6,8 @@ use Rattle.vk_model.specs.Trace.Point.{Past, Point, host_of}
 use Rattle.vk_model.specs.Trace.Objects.{made_by}
 use Rattle.vk_model.specs.Rules.Ids.{breaks_new_id, is_buffer, is_image, is_resource, is_pool, is_memory, is_semaphore, is_event, is_defrag, asked_by, judged_in, is_dead}
 use Rattle.vk_model.specs.Trace.PointViews.{point_of}
-use Rattle.vk_past.specs.declared.doings.Doing.TheVariants.{Makes, Ends}
-use Rattle.vk_past.specs.Doings.{does}
+use Rattle.vk_hazards.specs.declared.before.doings.Doing.TheVariants.{Makes, Ends}
+use Rattle.vk_hazards.specs.Doings.{does}
 use Rattle.vk_hazards.specs.declared.asked.ObjectKind.{ObjectKind}
 use Rattle.vk_hazards.specs.declared.asked.ObjectKind.TheVariants as kind
 use Rattle.vk_hazards.specs.declared.asked.Asked.{Asked}

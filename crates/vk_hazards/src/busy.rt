@@ -5,13 +5,13 @@ ghost use Rattle.vk_model.specs.Trace.PointViews.{point_of};
 ghost use Rattle.vk_order.specs.Queries.{IsNew};
 ghost use Rattle.vk_queues.specs.PointViews.{past_of};
 
+use crate::before::order_of;
 use crate::creating::{place_in, started_batches};
 use crate::trail::uses;
 use std::alloc::{AllocError, Global};
 use std::collections::BTreeSet;
 use vk_model::{Action, At, Batch, Cmd, Element, Entry, Place, Point};
 use vk_order::{Points, rows_of};
-use vk_past::order_of;
 
 /// What uses an object that ends.
 #[derive(Clone, Copy)]

@@ -1,3 +1,4 @@
+use crate::before::{Split, points_until, split_of};
 use crate::busy::{User, user_of};
 use crate::facts::Fact;
 use crate::idle::{IdleBarrier, idle_barrier};
@@ -5,7 +6,6 @@ use crate::signalers::{Signaler, signaler_of};
 use crate::undefined::{Undefined, undefined_read};
 use std::alloc::{AllocError, Global};
 use vk_model::{Action, At, Entry, Point, Rule};
-use vk_past::{Split, points_until, split_of};
 
 /// What is reported of a refused point beside its facts.
 #[derive(Drop)]

@@ -6,8 +6,8 @@ ghost use Rattle.vk_model.specs.Trace.PointViews.{action_of, point_of};
 ghost use Rattle.vk_queues.specs.PointViews.{past_of};
 ghost use Rattle.vk_hazards.specs.Counters.{IsCounted, IsLow, IsEndless, IsUnmet, is_unmet};
 
+use crate::before::{Doing, latest, made, signal_of};
 use vk_model::{Action, Entry, Point, SemaphoreValue};
-use vk_past::{Doing, latest, made, signal_of};
 
 /// A value that is signaled or waited for, and how far its semaphore is.
 #[derive(Clone, Copy)]

@@ -9,6 +9,7 @@ ghost use Rattle.vk_queues.specs.PointViews.{past_of};
 ghost use Rattle.vk_hazards.specs.Facts.{IsReported, IsReportedOf};
 ghost use Rattle.vk_hazards.specs.Hazards.{rule_of};
 
+use crate::before::{Split, split_of};
 use crate::counters::{CounterFact, endless_wait, low_signal};
 use crate::hazards::{Hazard, HazardFact};
 use crate::lives::{DeadId, Life, dead_id, made_id};
@@ -16,7 +17,6 @@ use crate::past::Past;
 use crate::strays::{StrayId, stray_id};
 use std::alloc::{AllocError, Global};
 use vk_model::{At, Entry, Point, Rule};
-use vk_past::{Split, split_of};
 
 /// What is so of a point that breaks a rule.
 #[derive(Clone, Copy)]

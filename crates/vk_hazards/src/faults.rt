@@ -2,16 +2,16 @@ ghost use Rattle.std.specs.Prelude.{IfOk, MatchOption, Some};
 ghost use Rattle.vk_model.specs.Trace.Order.{order};
 ghost use Rattle.vk_hazards.specs.declared.facts.Fact.TheVariants as fact_of;
 ghost use Rattle.vk_hazards.specs.Facts.{IsReportedOf};
-ghost use Rattle.vk_past.specs.Until.{IsUntil, IsNowhere};
+ghost use Rattle.vk_hazards.specs.Until.{IsUntil, IsNowhere};
 ghost use Rattle.vk_hazards.specs.Faults.{AreLinksAt, AreLinksOf};
 
+use crate::before::points_until;
 use crate::facts::Fact;
 use crate::hazards::HazardFact;
 use crate::links::Links;
 use crate::nodes::Nodes;
 use std::alloc::{AllocError, Global};
 use vk_model::{At, Entry, Rule};
-use vk_past::points_until;
 
 /// Which link of a hazard is missing that is reported of the point at which a trace is refused, and
 /// which nodes the others are by. The only error is want of memory.

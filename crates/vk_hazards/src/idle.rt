@@ -1,10 +1,10 @@
+use crate::before::at_of;
 use crate::hazards::{Hazard, HazardFact};
 use bitflags::Flags;
 use vk_model::{
     Accesses, Action, BufferElement, Cmd, Dependency, Element, ImageElement, Length, Point, Stages,
 };
 use vk_order::Byte;
-use vk_past::at_of;
 
 /// Why a barrier between two accesses of a byte doesn't keep them from being in hazard, though its masks
 /// would.

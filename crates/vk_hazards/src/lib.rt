@@ -1,12 +1,14 @@
 //! What is so of a point that breaks a rule on what came before it: of a hazard the earlier access,
 //! and which link between the two is missing; of an id what became of it; of a wait who would signal
-//! it; of a byte that is read undefined where its value was lost; and what still uses an object.
+//! it; of a byte that is read undefined where its value was lost; and what still uses an object. And
+//! what the points before such a point hold.
 #![tactic(auto)]
 
 mod alike;
 mod areas;
 mod asked;
 mod availability;
+mod before;
 mod busy;
 mod causes;
 mod commands;
@@ -33,6 +35,7 @@ mod until;
 mod visibility;
 
 pub use asked::ObjectKind;
+pub use before::{Doing, all_rows, at_of, latest, order_of, signal_of};
 pub use busy::User;
 pub use causes::{Cause, cause_of};
 pub use counters::CounterFact;

@@ -12,12 +12,12 @@ ghost use Rattle.vk_hazards.specs.Links.{needs_flush, AreLinks, AreLinksOfWrite,
 ghost use Rattle.vk_hazards.specs.Inner.Found.{AreFound};
 
 use crate::availability::Write;
+use crate::before::is_cached;
 use crate::hazards::{Hazard, HazardFact, Placed};
 use crate::nodes::Nodes;
 use crate::visibility::Pair;
 use std::alloc::AllocError;
 use vk_order::{Access, Byte};
-use vk_past::is_cached;
 
 /// A link between an access of a byte and a later one that are in hazard.
 #[derive(Clone, Copy, Debug, PartialEq, Eq)]

@@ -9,9 +9,9 @@ ghost use Rattle.vk_queues.specs.PointViews.{past_of};
 ghost use Rattle.vk_hazards.specs.Lives.{IsLife, IsMade, IsDead, asked_of};
 
 use crate::asked::{Asked, ObjectKind, asked_by};
+use crate::before::{Doing, entry_of, latest, live, made};
 use std::alloc::{AllocError, Global};
 use vk_model::{Action, Point};
-use vk_past::{Doing, entry_of, latest, live, made};
 
 /// What became of an id.
 #[derive(Clone, Copy)]

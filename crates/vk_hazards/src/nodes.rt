@@ -8,12 +8,12 @@ ghost use Rattle.vk_order.specs.Queries.{IsNew};
 ghost use Rattle.vk_queues.specs.PointViews.{past_of};
 ghost use Rattle.vk_hazards.specs.Hazards.{node_at};
 
+use crate::before::{all_rows, order_of};
 use crate::hazards::Placed;
 use std::alloc::{AllocError, Global};
 use std::marker::Model;
 use vk_model::Point;
 use vk_order::{Points, Row, elements_are_together};
-use vk_past::{all_rows, order_of};
 
 /// The nodes of points, and their order. Contracts see the points, the newest first.
 #[derive(Drop)]

@@ -5,13 +5,13 @@ ghost use Rattle.vk_model.specs.declared.point.Point.{Point as AnyPoint};
 ghost use Rattle.vk_model.specs.Trace.PointViews.{point_of};
 ghost use Rattle.vk_order.specs.Queries.{IsNew};
 ghost use Rattle.vk_queues.specs.PointViews.{past_of};
-ghost use Rattle.vk_past.specs.Creators.{AreCreators};
+ghost use Rattle.vk_hazards.specs.Creators.{AreCreators};
 
+use crate::before::{Creators, all_rows};
 use std::alloc::{AllocError, Global};
 use std::marker::Model;
 use vk_model::Point;
 use vk_order::{Points, Row};
-use vk_past::{Creators, all_rows};
 
 /// The points of a trace up to and with the last one of which facts are asked, as nodes, with what
 /// they made. Contracts see the points, the newest first.

@@ -9,9 +9,9 @@ ghost use Rattle.vk_model.specs.Trace.PointViews.{action_of, point_of};
 ghost use Rattle.vk_queues.specs.PointViews.{past_of};
 ghost use Rattle.vk_hazards.specs.Strays.{IsStray, IsStrayIn, IsListed, is_outside};
 
+use crate::before::{live, made, pool_at};
 use crate::lives::{Life, life_of};
 use vk_model::{Action, Entry, Point};
-use vk_past::{live, made, pool_at};
 
 /// That an end of a pass lists a resource that isn't in the pool of its defragmentation.
 #[derive(Clone, Copy)]

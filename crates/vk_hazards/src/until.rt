@@ -1,11 +1,11 @@
 ghost use Rattle.std.specs.Prelude.{IfOk, MatchOption};
 ghost use Rattle.vk_model.specs.Trace.Order.{order};
-ghost use Rattle.vk_past.specs.Until.{IsUntil, IsNowhere};
+ghost use Rattle.vk_hazards.specs.Until.{IsUntil, IsNowhere};
 
+use crate::before::points_until;
 use crate::past::Past;
 use std::alloc::{AllocError, Global};
 use vk_model::{At, Entry};
-use vk_past::points_until;
 
 impl<'a> Past<'a> {
     /// The points of a trace in reference order, up to and with the one at this place; none

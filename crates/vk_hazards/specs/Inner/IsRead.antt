@@ -4,8 +4,8 @@ use Rattle.vk_model.specs.Trace.Point.{Past, Point}
 use Rattle.vk_model.specs.Sync.Node.{Node, nodes}
 use Rattle.vk_order.specs.declared.acts.Row.{Row}
 use Rattle.vk_order.specs.NodeViews.{nodes_after}
-use Rattle.vk_past.specs.declared.creators.Creators.{Creators}
-use Rattle.vk_past.specs.Creators.{AreCreators}
+use Rattle.vk_hazards.specs.declared.before.creators.Creators.{Creators}
+use Rattle.vk_hazards.specs.Creators.{AreCreators}
 
 -- The rows and the order are those of the past's nodes, the creators are the past's, and so many nodes come before those of the newest point.
 pub record IsRead (past : Past) (rows : List Row) (order : List Node) (creators : Creators) (count : ℕ) : Type 0 where

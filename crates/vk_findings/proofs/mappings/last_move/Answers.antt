@@ -1,6 +1,6 @@
 use Rattle.std.proofs.Common.{true, false, sym, ◌∙◌}
 use Rattle.vk_model.specs.Trace.Point.{on_host}
-use Rattle.vk_past.proofs.PastLemmas.{find_more}
+use Rattle.vk_hazards.proofs.PastLemmas.{find_more}
 use Rattle.vk_history.specs.PointViews.{past}
 use Rattle.vk_findings.specs.Inner.Mapping.{moves}
 use Rattle.vk_findings.proofs.mappings.last_move.Goals as goal

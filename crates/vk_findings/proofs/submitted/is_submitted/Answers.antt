@@ -1,6 +1,6 @@
 use Rattle.vk_model.specs.Trace.PointViews.{point_of}
 use Rattle.vk_queues.specs.PointViews.{past_of}
-use Rattle.vk_past.proofs.PastLemmas.{past_has}
+use Rattle.vk_hazards.proofs.PastLemmas.{past_has}
 use Rattle.vk_findings.proofs.CommandLemmas.{submits_it}
 use Rattle.vk_findings.proofs.submitted.is_submitted.Goals as goal
 

@@ -6,7 +6,7 @@ use Rattle.vk_model.specs.Trace.Point.{Past, Point}
 use Rattle.vk_model.specs.Trace.PointViews.{point_of}
 use Rattle.vk_model.proofs.Lists.Members.{contains-cons}
 use Rattle.vk_queues.specs.PointViews.{past_of}
-use Rattle.vk_past.proofs.PastLemmas.{past_has, past_item}
+use Rattle.vk_hazards.proofs.PastLemmas.{past_has, past_item}
 use Rattle.vk_findings.specs.Inner.Users.{IsPointDone}
 use Rattle.vk_findings.proofs.CommandLemmas.{submits_it}
 use Rattle.vk_findings.proofs.users.user_among.Goals as goal

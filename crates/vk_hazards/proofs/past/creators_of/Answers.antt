@@ -1,8 +1,8 @@
 use Rattle.std.proofs.Common.{take, sym, subst}
 use Rattle.vk_model.specs.Trace.Point.{Past}
 use Rattle.vk_queues.specs.PointViews.{past_of}
-use Rattle.vk_past.specs.Creators.{AreCreators}
-use Rattle.vk_past.proofs.PastLemmas.{past_item}
+use Rattle.vk_hazards.specs.Creators.{AreCreators}
+use Rattle.vk_hazards.proofs.PastLemmas.{past_item}
 use Rattle.vk_hazards.proofs.past.creators_of.Goals as goal
 
 pub loop-point-preserved : goal.loop-point-preserved

@@ -1,4 +1,0 @@
-pub mod PastLemmas
-pub mod CreatorLemmas
-pub mod DoingLemmas
-pub mod UntilLemmas

@@ -1,7 +1,0 @@
-use Rattle.std.proofs.Common.{◌≡◌, take}
-use Rattle.vk_model.specs.Sync.Node.{nodes}
-use Rattle.vk_queues.specs.PointViews.{past_of}
-use Rattle.vk_past.proofs.nodes.order_of.Given as goal
-
-abbrev pub invariant-loop-point : goal.invariant-loop-point
-invariant-loop-point l = l.order ≡ nodes (past_of (take l.point-index l.points))

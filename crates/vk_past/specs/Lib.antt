@@ -1,3 +1,0 @@
-pub mod Creators
-pub mod Doings
-pub mod Until
