@@ -1,74 +1,12 @@
 ghost use Rattle.std.specs.Prelude.{◌≡◌, option_map};
 ghost use Rattle.vk_model.specs.Trace.Objects as objects;
-ghost use Rattle.vk_model.specs.World.ByteWrites.{buffer_size};
 ghost use Rattle.vk_queues.specs.PointViews.{past_of};
 
 use crate::before::doings::made;
-use vk_model::{BufferInfo, Entry, ImageInfo, MemoryInfo, Place, Point, PoolInfo, Usage};
+use vk_model::{Entry, Place, Point};
 
 /// The memory type that the host reaches through a cache.
 const CACHED: u32 = 2;
-
-/// The buffer of an id.
-pub fn buffer(points: &[Point<'_>], id: u32) -> Option<BufferInfo>
-    ensures { result ≡ objects.buffer (past_of points.now) id }
-{
-    match made(points, id) {
-        Some(Entry::Buffer { info, .. }) => Some(*info),
-        _ => None,
-    }
-}
-
-/// The bytes of a buffer; none of what is no buffer.
-pub fn size(points: &[Point<'_>], id: u32) -> u64
-    ensures { result ≡ buffer_size (past_of points.now) id }
-{
-    match buffer(points, id) {
-        Some(info) => info.size,
-        None => 0,
-    }
-}
-
-/// The image of an id.
-pub fn image(points: &[Point<'_>], id: u32) -> Option<ImageInfo>
-    ensures { result ≡ objects.image (past_of points.now) id }
-{
-    match made(points, id) {
-        Some(Entry::Image { info, .. }) => Some(*info),
-        _ => None,
-    }
-}
-
-/// The pool of an id.
-pub fn pool(points: &[Point<'_>], id: u32) -> Option<PoolInfo>
-    ensures { result ≡ objects.pool (past_of points.now) id }
-{
-    match made(points, id) {
-        Some(Entry::Pool { info, .. }) => Some(*info),
-        _ => None,
-    }
-}
-
-/// The memory object of an id.
-pub fn memory(points: &[Point<'_>], id: u32) -> Option<MemoryInfo>
-    ensures { result ≡ objects.memory (past_of points.now) id }
-{
-    match made(points, id) {
-        Some(Entry::Memory { info, .. }) => Some(*info),
-        _ => None,
-    }
-}
-
-/// What a resource was made for.
-pub fn usage(points: &[Point<'_>], id: u32) -> Option<Usage>
-    ensures { option_map (λ u. u.0) result ≡ option_map (λ r. r.usage) (objects.resource (past_of points.now) id) }
-{
-    match made(points, id) {
-        Some(Entry::Buffer { info, .. }) => Some(info.usage),
-        Some(Entry::Image { info, .. }) => Some(info.usage),
-        _ => None,
-    }
-}
 
 /// The pool of a place.
 pub fn pool_at(place: Place) -> Option<u32>
