@@ -17,6 +17,8 @@ pub struct Case<'a> {
     pub refused: Point<'a>,
     /// The rule that it breaks.
     pub rule: Rule,
+    /// Of a hazard the place of the earlier access among the earlier points, where it's known.
+    pub accessed: Option<usize>,
 }
 
 /// What a list of edits keeps of a trace.
@@ -106,6 +108,15 @@ impl Candidates {
     }
 }
 
+/// Which commands a repair comes after.
+#[derive(Clone, Copy)]
+pub enum Earlier {
+    /// The one that makes the earlier access of the hazard.
+    Accessed,
+    /// The latest one of each queue.
+    Latest,
+}
+
 impl<'a> Case<'a> {
     /// No edits yet.
     pub(crate) fn edits(&self) -> EditList {
@@ -122,6 +133,7 @@ impl<'a> Case<'a> {
         Case {
             earlier,
             refused: *point,
+            accessed: None,
             ..*self
         }
     }
@@ -233,6 +245,38 @@ impl<'a> Case<'a> {
             }
         }
         Ok(latest)
+    }
+
+    /// The command on a queue that a repair comes after, and its place among the earlier points: the latest one
+    /// that names one of these resources, where one of the two writes to it; or the earlier access of the
+    /// hazard, where that isn't the latest one.
+    pub(crate) fn earlier_on(
+        &self,
+        which: Earlier,
+        queue: u32,
+        uses: &[Use],
+    ) -> Result<Option<(usize, Point<'a>)>, AllocError> {
+        let latest = self.latest_on(queue, uses)?;
+        match which {
+            Earlier::Latest => Ok(latest),
+            Earlier::Accessed => match (latest, self.accessed_on(queue)) {
+                (Some((last, _)), Some((index, point))) if last != index => {
+                    Ok(Some((index, point)))
+                }
+                _ => Ok(None),
+            },
+        }
+    }
+
+    /// The earlier access of the hazard, if a command on this queue makes it.
+    fn accessed_on(&self, queue: u32) -> Option<(usize, Point<'a>)> {
+        let index = self.accessed?;
+        let point = self.earlier.get(index)?;
+        if matches!(point.action, Action::Run(_)) && point.queue == queue {
+            Some((index, *point))
+        } else {
+            None
+        }
     }
 
     /// The latest write of the host to one of these resources.

@@ -1,4 +1,4 @@
-use crate::cases::{Candidates, Case, place_of};
+use crate::cases::{Candidates, Case, Earlier, place_of};
 use crate::edits::Change;
 use crate::lists::EditList;
 use crate::orders::{Ordering, covering, order_after};
@@ -6,7 +6,8 @@ use crate::uses::{Use, uses_of};
 use crate::{host_hazards, stages, transitions};
 use std::alloc::AllocError;
 use vk_model::{
-    Accesses, Action, Batch, Cmd, Dependency, Element, Entry, Length, Point, Rule, Sequence, Stages,
+    Accesses, Action, Batch, Cmd, Dependency, Duplicate, Element, Entry, Length, Point, Rule,
+    Sequence, Stages,
 };
 
 /// How many queues there are.
@@ -67,6 +68,7 @@ fn before_command(case: &Case<'_>, found: &mut Candidates) -> Result<(), AllocEr
     widened_transition(case, narrow, found)?;
     with_barrier(case, uses, narrow, Flushed::Nothing, found)?;
     with_barrier(case, uses, wide, Flushed::Nothing, found)?;
+    moved_flush(case, uses, found)?;
     for flush in flushes.as_slice() {
         let mut edits = case.edits();
         insert_flush(*flush, &mut edits)?;
@@ -78,15 +80,22 @@ fn before_command(case: &Case<'_>, found: &mut Candidates) -> Result<(), AllocEr
     transitions::opened(case, uses, Some(wide), found)?;
     stages::wider_waits(case, uses, found)?;
     for ordering in [Ordering::Known, Ordering::New] {
-        for also in [None, Some(narrow), Some(wide)] {
-            after_queues(case, uses, ordering, also, Flushed::Nothing, found)?;
+        for earlier in [Earlier::Accessed, Earlier::Latest] {
+            for also in [None, Some(narrow), Some(wide)] {
+                let order = Order { earlier, ordering };
+                after_queues(case, uses, order, also, Flushed::Nothing, found)?;
+            }
         }
     }
-    after_queues(case, uses, Ordering::New, Some(wide), Flushed::Each, found)?;
+    let order = Order {
+        earlier: Earlier::Latest,
+        ordering: Ordering::New,
+    };
+    after_queues(case, uses, order, Some(wide), Flushed::Each, found)?;
     for flush in flushes.as_slice() {
         let flushed = Flushed::One(*flush);
         with_barrier(case, uses, wide, flushed, found)?;
-        after_queues(case, uses, Ordering::New, Some(wide), flushed, found)?;
+        after_queues(case, uses, order, Some(wide), flushed, found)?;
     }
     after_late_write(case, uses, found)
 }
@@ -226,6 +235,45 @@ fn flushes(case: &Case<'_>, uses: &[Use]) -> Result<Vec<Flush>, AllocError> {
     Ok(all)
 }
 
+/// A flush of the buffer that the host wrote to, before which nothing was written to it, comes right after the
+/// write.
+fn moved_flush(case: &Case<'_>, uses: &[Use], found: &mut Candidates) -> Result<(), AllocError> {
+    let Some(written) = case.latest_host_write(uses) else {
+        return Ok(());
+    };
+    let Action::Host(Entry::Write { buffer, .. }) = written.action else {
+        return Ok(());
+    };
+    if let Some((number, flush)) = idle_flush(case, *buffer, written.entry) {
+        let mut edits = case.edits();
+        edits.remove(number)?;
+        edits.insert(written.entry.saturating_add(1), flush.duplicate()?)?;
+        found.add(edits)?;
+    }
+    Ok(())
+}
+
+/// The last flush of a buffer before an entry, where the host wrote nothing to the buffer before it.
+fn idle_flush<'a>(case: &Case<'a>, id: u32, end: usize) -> Option<(usize, &'a Entry)> {
+    let mut idle = None;
+    let mut is_written = false;
+    for (number, entry) in case.trace.iter().enumerate() {
+        match entry {
+            Entry::Write { buffer, .. } if *buffer == id && number < end => is_written = true,
+            Entry::Flush { buffer, .. } if *buffer == id && number < end => {
+                idle = if is_written {
+                    None
+                } else {
+                    Some((number, entry))
+                };
+                is_written = false;
+            }
+            _ => {}
+        }
+    }
+    idle
+}
+
 fn insert_flush(flush: Flush, edits: &mut EditList) -> Result<(), AllocError> {
     edits.insert(
         flush.number,
@@ -244,12 +292,21 @@ fn all_flushed(case: &Case<'_>, uses: &[Use], found: &mut Candidates) -> Result<
     found.add(edits)
 }
 
-/// The batch of the point comes after the latest such command of each other queue that touched the
-/// resources; also with a barrier before the point, and with flushes.
+/// What the batch of the point comes after, and by which semaphore.
+#[derive(Clone, Copy)]
+struct Order {
+    /// Which commands of other queues.
+    earlier: Earlier,
+    /// By which semaphore.
+    ordering: Ordering,
+}
+
+/// The batch of the point comes after commands of other queues that touched the resources; also with a
+/// barrier before the point, and with flushes.
 fn after_queues(
     case: &Case<'_>,
     uses: &[Use],
-    ordering: Ordering,
+    order: Order,
     also: Option<Dependency>,
     flushed: Flushed,
     found: &mut Candidates,
@@ -258,8 +315,8 @@ fn after_queues(
     let mut is_ordered = false;
     for queue in 0..QUEUES {
         if queue != case.refused.queue {
-            if let Some((index, earlier)) = case.latest_on(queue, uses)? {
-                order_after(case, ordering, index, &earlier, 0, &mut edits)?;
+            if let Some((index, earlier)) = case.earlier_on(order.earlier, queue, uses)? {
+                order_after(case, order.ordering, index, &earlier, 0, &mut edits)?;
                 is_ordered = true;
             }
         }

@@ -1,10 +1,10 @@
-use crate::cases::{Candidates, Case};
+use crate::cases::{Candidates, Case, Earlier};
 use crate::hazards::{QUEUES, barrier};
 use crate::lists::EditList;
 use crate::orders::{Ordering, host_wait_after};
 use crate::uses::{Use, uses_of, writes};
 use std::alloc::AllocError;
-use vk_model::{Accesses, Action, Dependency, Entry, Length, Rule, Sequence, Stages};
+use vk_model::{Accesses, Action, Dependency, Duplicate, Entry, Length, Rule, Sequence, Stages};
 
 /// Which parts a repair before a point of the host has.
 #[derive(Clone, Copy)]
@@ -54,8 +54,32 @@ pub fn hazards(case: &Case<'_>, found: &mut Candidates) -> Result<(), AllocError
     if matches!(case.rule, Rule::HazardWar) {
         before_host(case, &waits_alone(), uses.as_slice(), found)
     } else {
+        moved_invalidation(case, found)?;
         before_host(case, &plans(), uses.as_slice(), found)
     }
+}
+
+/// The last invalidation of the buffer that the host reads, after which it hasn't read the buffer, comes right
+/// before the read.
+fn moved_invalidation(case: &Case<'_>, found: &mut Candidates) -> Result<(), AllocError> {
+    let Action::Host(Entry::Read { buffer: id, .. }) = case.refused.action else {
+        return Ok(());
+    };
+    let mut last = None;
+    for (number, entry) in case.trace.iter().enumerate().take(case.refused.entry) {
+        match entry {
+            Entry::Read { buffer, .. } if buffer == id => last = None,
+            Entry::Invalidate { buffer, .. } if buffer == id => last = Some((number, entry)),
+            _ => {}
+        }
+    }
+    if let Some((number, invalidation)) = last {
+        let mut edits = case.edits();
+        edits.remove(number)?;
+        edits.insert(case.refused.entry, invalidation.duplicate()?)?;
+        found.add(edits)?;
+    }
+    Ok(())
 }
 
 /// The host waits for the commands that use some resources.
@@ -71,7 +95,9 @@ fn before_host(
     found: &mut Candidates,
 ) -> Result<(), AllocError> {
     for plan in plans {
-        by_plan(case, *plan, uses, found)?;
+        for which in [Earlier::Accessed, Earlier::Latest] {
+            by_plan(case, *plan, which, uses, found)?;
+        }
     }
     Ok(())
 }
@@ -79,13 +105,16 @@ fn before_host(
 fn by_plan(
     case: &Case<'_>,
     plan: Plan,
+    which: Earlier,
     uses: &[Use],
     found: &mut Candidates,
 ) -> Result<(), AllocError> {
     let mut edits = case.edits();
     let mut waits = Vec::new(case.alloc);
+    let mut is_found = false;
     for queue in 0..QUEUES {
-        if let Some((index, earlier)) = case.latest_on(queue, uses)? {
+        if let Some((index, earlier)) = case.earlier_on(which, queue, uses)? {
+            is_found = true;
             if plan.barrier {
                 let to_host = to_host(writes(uses));
                 edits.insert_command(case.commands_end(&earlier), barrier(case, to_host)?)?;
@@ -105,6 +134,9 @@ fn by_plan(
     }
     if plan.invalidate {
         invalidated(case, &mut edits)?;
+    }
+    if !is_found && matches!(which, Earlier::Accessed) {
+        return Ok(());
     }
     found.add(edits)
 }

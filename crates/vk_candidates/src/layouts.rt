@@ -1,10 +1,11 @@
 use crate::cases::{Candidates, Case, family_of, place_of};
+use crate::lists::EditList;
 use crate::pieces::{Piece, add_pieces, one_layout};
 use crate::sides::{Side, named, named_in, ranges_of};
 use std::alloc::AllocError;
 use vk_model::{
     Accesses, Action, Cmd, Dependency, Duplicate, Element, Families, ImageElement, Layout,
-    Sequence, Stages,
+    Sequence, Stages, SubresourceRange,
 };
 
 /// The layout that the point names is the current one, or a transition to it comes right before.
@@ -16,6 +17,7 @@ pub fn layout(case: &Case<'_>, found: &mut Candidates) -> Result<(), AllocError>
         return known_layouts(case, elements.as_slice(), found);
     }
     in_current(case, command, found)?;
+    widened_transitions(case, command, found)?;
     for is_general in [false, true] {
         after_transitions(case, command, is_general, found)?;
     }
@@ -63,6 +65,97 @@ fn same_layout(pieces: &[Piece]) -> Option<Layout> {
         }
     }
     layout
+}
+
+/// The last transition of each image to the layout that the command names takes in what the command reaches
+/// in another layout.
+fn widened_transitions(
+    case: &Case<'_>,
+    command: &Cmd,
+    found: &mut Candidates,
+) -> Result<(), AllocError> {
+    let mut edits = case.edits();
+    for side in [Side::Source, Side::Destination] {
+        if let Some((image, layout)) = named(command, side) {
+            let mut pieces = Vec::new(case.alloc);
+            let ranges = ranges_of(case, command, side)?;
+            for range in ranges.as_slice() {
+                add_pieces(case, image, range, &mut pieces)?;
+            }
+            if let Some(more) = elsewhere(pieces.as_slice(), layout) {
+                widened_transition(case, image, layout, more, &mut edits)?;
+            }
+        }
+    }
+    found.add(edits)
+}
+
+/// The levels and layers from the first to the last of the pieces that aren't in a layout.
+fn elsewhere(pieces: &[Piece], layout: Layout) -> Option<SubresourceRange> {
+    let mut found = None;
+    for piece in pieces {
+        if piece.layout != layout {
+            found = match found {
+                Some(range) => Some(both(range, piece.range)),
+                None => Some(piece.range),
+            };
+        }
+    }
+    found
+}
+
+/// The last transition of an image to a layout takes in a range more.
+fn widened_transition(
+    case: &Case<'_>,
+    image: u32,
+    layout: Layout,
+    more: SubresourceRange,
+    edits: &mut EditList,
+) -> Result<(), AllocError> {
+    for point in case.earlier.iter().rev() {
+        if let Action::Run(Cmd::Barrier { elements }) = point.action {
+            let mut all = Vec::new(case.alloc);
+            let mut is_wider = false;
+            for element in elements.as_slice() {
+                match element {
+                    Element::Image(range)
+                        if range.image == image
+                            && range.new_layout == layout
+                            && range.old_layout != layout => {
+                        is_wider = true;
+                        all.push(Element::Image(ImageElement {
+                            range: both(range.range, more),
+                            ..*range
+                        }))?;
+                    }
+                    other => all.push(*other)?,
+                }
+            }
+            if is_wider {
+                let elements = Sequence::new(all);
+                return edits.replace_command(place_of(point), Cmd::Barrier { elements });
+            }
+        }
+    }
+    Ok(())
+}
+
+/// The levels and layers from the first to the last of two ranges.
+fn both(one: SubresourceRange, other: SubresourceRange) -> SubresourceRange {
+    let first_level = one.first_level.min(other.first_level);
+    let first_layer = one.first_layer.min(other.first_layer);
+    let end_level = end(one.first_level, one.levels).max(end(other.first_level, other.levels));
+    let end_layer = end(one.first_layer, one.layers).max(end(other.first_layer, other.layers));
+    SubresourceRange {
+        first_level,
+        levels: end_level.saturating_sub(first_level),
+        first_layer,
+        layers: end_layer.saturating_sub(first_layer),
+    }
+}
+
+fn end(first: u32, count: u32) -> u32 {
+    first.saturating_add(count)
 }
 
 /// Transitions right before the command, to layouts that it names from then on.

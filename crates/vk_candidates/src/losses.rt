@@ -1,5 +1,5 @@
 use crate::cases::{Candidates, Case, family_of, place_of};
-use crate::halves::{half, nothing, used, whole_half, written};
+use crate::halves::{half, nothing, used, whole_half, with_families, written};
 use crate::lists::EditList;
 use crate::orders::{Ordering, order_after};
 use crate::ownership::{Half, Owned, after_command, families_of, half_of, is_exclusive};
@@ -25,6 +25,9 @@ pub fn transfers(
     found: &mut Candidates,
 ) -> Result<(), AllocError> {
     let losses = losses(case, resources)?;
+    for loss in losses.as_slice() {
+        by_known_barriers(case, loss, found)?;
+    }
     for ordering in [Ordering::Nothing, Ordering::Known, Ordering::New] {
         for loss in losses.as_slice() {
             let mut edits = case.edits();
@@ -42,6 +45,100 @@ pub fn transfers(
         found.add(edits)?;
     }
     Ok(())
+}
+
+/// The barriers on a resource that are there become the halves of its transfer: the last one on the queue of the
+/// owner, after its last use, and the last one on the queue of the other use, before that.
+fn by_known_barriers(
+    case: &Case<'_>,
+    loss: &Loss,
+    found: &mut Candidates,
+) -> Result<(), AllocError> {
+    let resource = loss.resource;
+    let index = loss.index;
+    let Some(last) = loss.owned.last else {
+        return Ok(());
+    };
+    let (Some(owner), Some(user)) = (case.earlier.get(last), case.earlier.get(index)) else {
+        return Ok(());
+    };
+    let Some(first) = last_barrier(case, resource, owner.queue, last, index) else {
+        return Ok(());
+    };
+    let Some(second) = last_barrier(case, resource, user.queue, 0, index) else {
+        return Ok(());
+    };
+    let families = Families {
+        source: family_of(owner.queue),
+        destination: family_of(user.queue),
+    };
+    let mut edits = case.edits();
+    transfer_by(case, &first, resource, families, &mut edits)?;
+    transfer_by(case, &second, resource, families, &mut edits)?;
+    found.add(edits)
+}
+
+/// A barrier transfers a resource between families.
+fn transfer_by(
+    case: &Case<'_>,
+    barrier: &Point<'_>,
+    resource: u32,
+    families: Families,
+    edits: &mut EditList,
+) -> Result<(), AllocError> {
+    let Action::Run(Cmd::Barrier { elements }) = barrier.action else {
+        return Ok(());
+    };
+    let elements = transferring(case, elements.as_slice(), resource, families)?;
+    edits.replace_command(place_of(barrier), Cmd::Barrier { elements })
+}
+
+/// The last barrier on a queue between two places among the earlier points that has an element on a resource
+/// and no transfer of it.
+fn last_barrier<'a>(
+    case: &Case<'a>,
+    resource: u32,
+    queue: u32,
+    first: usize,
+    end: usize,
+) -> Option<Point<'a>> {
+    let mut last = None;
+    for (index, point) in case.earlier.iter().enumerate() {
+        if let Action::Run(Cmd::Barrier { elements }) = point.action {
+            let is_between = first <= index && index < end && point.queue == queue;
+            let mut on_it = elements.as_slice().iter();
+            if is_between && on_it.any(|element| stays(element, resource)) {
+                last = Some(*point);
+            }
+        }
+    }
+    last
+}
+
+/// Whether an element is on a resource, whose owner stays.
+fn stays(element: &Element, resource: u32) -> bool {
+    match families_of(element) {
+        Some((named, families)) => named == resource && families.source == families.destination,
+        None => false,
+    }
+}
+
+/// Elements of which those on a resource transfer it between these families.
+fn transferring(
+    case: &Case<'_>,
+    elements: &[Element],
+    resource: u32,
+    families: Families,
+) -> Result<Sequence<Element>, AllocError> {
+    let mut all = Vec::new(case.alloc);
+    for element in elements {
+        if stays(element, resource) {
+            all.push(with_families(*element, families))?;
+        } else {
+            all.push(*element)?;
+        }
+    }
+    Ok(Sequence::new(all))
 }
 
 /// The uses before the point by which contents of resources were lost.

@@ -2,6 +2,7 @@ use crate::cases::{Candidates, Case, family_of, place_of};
 use crate::halves::{all_of, half, nothing, with_families, written};
 use crate::orders::{Ordering, order_after};
 use crate::ownership::{Half, Owned, families_of, half_of, is_exclusive, owner_of};
+use crate::stages::wider_after;
 use std::alloc::AllocError;
 use vk_model::{
     Action, BufferElement, Cmd, Element, Entry, Families, ImageElement, Length, Sequence,
@@ -113,7 +114,15 @@ pub fn owner_pair(case: &Case<'_>, found: &mut Candidates) -> Result<(), AllocEr
     for element in elements.as_slice() {
         plans.push(planned(case, *element)?)?;
     }
-    for ordering in [Ordering::Nothing, Ordering::Known, Ordering::New] {
+    by_plans(case, plans.as_slice(), Ordering::Nothing, found)?;
+    let mut earlier = Vec::new(case.alloc);
+    for plan in &plans {
+        if let Some(index) = plan.after {
+            earlier.push(index)?;
+        }
+    }
+    wider_after(case, earlier.as_slice(), found)?;
+    for ordering in [Ordering::Known, Ordering::New] {
         by_plans(case, plans.as_slice(), ordering, found)?;
     }
     no_transfer(case, elements.as_slice(), found)
@@ -133,12 +142,23 @@ fn planned(case: &Case<'_>, element: Element) -> Result<Plan, AllocError> {
     }
     let owned = owner_of(case, resource)?;
     if half == Half::Release {
-        return match owned.release {
-            Some(_) => Ok(kept(staying(element))),
-            None => Ok(kept(element)),
-        };
+        return Ok(planned_release(case, element, owned));
     }
     Ok(planned_acquire(case, element, owned))
+}
+
+/// A release, or the acquire of what is released for the family, with its families the wrong way round.
+fn planned_release(case: &Case<'_>, element: Element, owned: Owned) -> Plan {
+    let Owned {
+        family: _,
+        release,
+        last,
+    } = owned;
+    let own = family_of(case.refused.queue);
+    match release {
+        Some(release) => planned_second(own, element, release, last),
+        None => kept(element),
+    }
 }
 
 fn planned_acquire(case: &Case<'_>, element: Element, owned: Owned) -> Plan {

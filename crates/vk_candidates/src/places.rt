@@ -5,6 +5,9 @@ use vk_model::{
     Action, BufferInfo, Duplicate, Entry, ImageInfo, MemoryInfo, Place, PoolInfo, PoolKind,
 };
 
+/// What the size of a larger memory object is a multiple of, in bytes.
+const UNIT: u64 = 64;
+
 /// So many places are tried at most.
 const MOST_STARTS: usize = 36;
 
@@ -195,7 +198,19 @@ fn ends_in(case: &Case<'_>, memory: u32) -> Result<Vec<u64>, AllocError> {
     Ok(ends)
 }
 
-/// A larger memory object; the resource stays, or comes after what it was before.
+/// Where a buffer ends in its memory object; 0 for others.
+fn bound_end(entry: &Entry) -> u64 {
+    match entry {
+        Entry::Buffer { info, .. } => match info.place {
+            Place::Memory { offset, .. } => offset.saturating_add(info.size),
+            _ => 0,
+        },
+        _ => 0,
+    }
+}
+
+/// A larger memory object: just as large as a buffer needs it, or twice as large and more; the resource stays,
+/// or comes after what it was before.
 fn larger_memory(
     case: &Case<'_>,
     entry: &Entry,
@@ -205,6 +220,11 @@ fn larger_memory(
     let Some((number, Entry::Memory { id, info })) = case.creator(memory) else {
         return Ok(());
     };
+    let size = rounded(bound_end(entry), UNIT);
+    if size > info.size {
+        let info = MemoryInfo { size, ..*info };
+        replaced(case, number, Entry::Memory { id: *id, info }, found)?;
+    }
     let mut size = info.size;
     for _ in 0..10 {
         size = size.saturating_mul(2).min(67_108_864);

@@ -1,5 +1,6 @@
 use crate::cases::{Candidates, Case, place_of};
 use crate::entries::replaced;
+use crate::reaches::{reach_at, reach_of};
 use crate::uses::uses_of;
 use std::alloc::AllocError;
 use vk_model::{
@@ -156,21 +157,27 @@ fn tight(
     Ok(Sequence::new(all))
 }
 
-/// Larger buffers where those are made that the point uses.
+/// The buffers that the point uses as large as the trace reaches in them, or as the point itself does.
 pub fn larger_buffers(case: &Case<'_>, found: &mut Candidates) -> Result<(), AllocError> {
     let uses = uses_of(case.alloc, case.refused.action)?;
-    for one in uses.as_slice() {
-        if let Some((number, Entry::Buffer { id, info })) = case.creator(one.resource) {
-            let mut size = info.size;
-            for _ in 0..8 {
-                size = size.saturating_mul(2);
-                let larger = Entry::Buffer {
-                    id: *id,
-                    info: BufferInfo { size, ..*info },
+    for is_of_trace in [true, false] {
+        let mut edits = case.edits();
+        let mut larger = Vec::new(case.alloc);
+        for one in uses.as_slice() {
+            if let Some((number, Entry::Buffer { id, info })) = case.creator(one.resource) {
+                let size = if is_of_trace {
+                    reach_of(case, *id)
+                } else {
+                    reach_at(case, *id)
                 };
-                replaced(case, number, larger, found)?;
+                if size > info.size && !larger.contains(id) {
+                    larger.push(*id)?;
+                    let info = BufferInfo { size, ..*info };
+                    edits.replace(number, Entry::Buffer { id: *id, info })?;
+                }
             }
         }
+        found.add(edits)?;
     }
     Ok(())
 }

@@ -1,5 +1,6 @@
 use crate::cases::Case;
-use vk_model::{BufferImageCopy, Cmd, Element, Entry, Length, Place, SubresourceRange};
+use crate::rows::{line_start, texel_bytes};
+use vk_model::{Action, BufferImageCopy, Cmd, Element, Entry, Length, Place, SubresourceRange};
 
 /// The most bytes of a texel.
 pub const TEXEL: u64 = 16;
@@ -21,12 +22,21 @@ pub struct Extent {
 pub fn reach_of(case: &Case<'_>, buffer: u32) -> u64 {
     let mut reach = 0;
     for entry in case.trace {
-        reach = reach.max(reach_in(entry, buffer));
+        reach = reach.max(reach_in(case, entry, buffer));
     }
     reach
 }
 
-fn reach_in(entry: &Entry, buffer: u32) -> u64 {
+/// How many bytes of a buffer the refused point reaches.
+pub fn reach_at(case: &Case<'_>, buffer: u32) -> u64 {
+    match case.refused.action {
+        Action::Host(entry) => reach_in(case, entry, buffer),
+        Action::Run(command) => reach_by(case, command, buffer),
+        Action::Wait(_) | Action::Signal(_) => 0,
+    }
+}
+
+fn reach_in(case: &Case<'_>, entry: &Entry, buffer: u32) -> u64 {
     match entry {
         Entry::Write {
             buffer: other,
@@ -52,7 +62,7 @@ fn reach_in(entry: &Entry, buffer: u32) -> u64 {
             let mut reach = 0;
             for batch in batches.as_slice() {
                 for command in batch.commands.as_slice() {
-                    reach = reach.max(reach_by(command, buffer));
+                    reach = reach.max(reach_by(case, command, buffer));
                 }
             }
             reach
@@ -72,7 +82,7 @@ fn bytes_in(length: Length) -> u64 {
     }
 }
 
-fn reach_by(command: &Cmd, buffer: u32) -> u64 {
+fn reach_by(case: &Case<'_>, command: &Cmd, buffer: u32) -> u64 {
     match command {
         Cmd::Fill {
             buffer: other,
@@ -87,22 +97,24 @@ fn reach_by(command: &Cmd, buffer: u32) -> u64 {
         } if *other == buffer => end(*offset, bytes.len() as u64),
         Cmd::CopyIn {
             buffer: other,
+            image,
             regions,
             ..
         }
         | Cmd::CopyOut {
             buffer: other,
+            image,
             regions,
             ..
-        } if *other == buffer => texels_reach(regions.as_slice()),
+        } if *other == buffer => texels_reach(regions.as_slice(), texel_bytes(case, *image)),
         _ => reach_of_list(command, buffer),
     }
 }
 
-fn texels_reach(regions: &[BufferImageCopy]) -> u64 {
+fn texels_reach(regions: &[BufferImageCopy], texel: u64) -> u64 {
     let mut reach = 0;
     for region in regions {
-        reach = reach.max(texels_end(region));
+        reach = reach.max(texels_end(region, texel));
     }
     reach
 }
@@ -144,14 +156,15 @@ fn element_end(element: &Element, buffer: u32) -> u64 {
     }
 }
 
-/// The end of a region between a buffer and an image, for the largest texels.
-fn texels_end(region: &BufferImageCopy) -> u64 {
-    let row = region.row_length.max(region.width) as u64;
-    let rows = region.image_height.max(region.height) as u64;
-    let texels = row
-        .saturating_mul(rows)
-        .saturating_mul(region.layers as u64);
-    end(region.buffer_offset, texels.saturating_mul(TEXEL))
+/// The end of a region between a buffer and an image whose texels have so many bytes.
+fn texels_end(region: &BufferImageCopy, texel: u64) -> u64 {
+    let layer = region.layers.saturating_sub(1);
+    let row = region.height.saturating_sub(1);
+    let width = region.width as u64;
+    end(
+        line_start(region, texel, layer, row),
+        width.saturating_mul(texel),
+    )
 }
 
 /// How many bytes of a memory object the resources in it may take.

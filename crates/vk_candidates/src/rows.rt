@@ -1,4 +1,5 @@
 use crate::cases::Case;
+use crate::reaches::TEXEL;
 use std::alloc::AllocError;
 use vk_image_tiles::texel_size;
 use vk_model::{BufferCopy, BufferImageCopy, Entry};
@@ -19,11 +20,11 @@ pub struct Rows {
     pub size: u64,
 }
 
-/// The bytes of a texel of an image; 1 where nothing makes it.
+/// The bytes of a texel of an image; the most where nothing makes it.
 pub fn texel_bytes(case: &Case<'_>, image: u32) -> u64 {
     match case.creator(image) {
         Some((_, Entry::Image { info, .. })) => texel_size(info.format) as u64,
-        _ => 1,
+        _ => TEXEL,
     }
 }
 
@@ -74,7 +75,7 @@ fn add_region(rows: &mut Rows, region: &BufferImageCopy, texel: u64) -> Result<(
 }
 
 /// Where a row of a region starts in its buffer, in bytes.
-fn line_start(region: &BufferImageCopy, texel: u64, layer: u32, row: u32) -> u64 {
+pub fn line_start(region: &BufferImageCopy, texel: u64, layer: u32, row: u32) -> u64 {
     let length = region.row_length.max(region.width) as u64;
     let height = region.image_height.max(region.height) as u64;
     let earlier = height

@@ -1,9 +1,12 @@
 use crate::edits::{Change, Edit, Member};
 use std::alloc::{AllocError, Global};
-use vk_model::{Accesses, Cmd, Dependency, Duplicate, Element, Entry, Sequence};
+use vk_model::{
+    Accesses, BufferElement, Cmd, Dependency, Duplicate, Element, Entry, Families, ImageElement,
+    Sequence, Stages,
+};
 
 /// In so many ways a barrier is made less.
-pub const STEPS: usize = 3;
+pub const STEPS: usize = 4;
 
 /// Equal edits. The only error is want of memory.
 pub fn copy_of_edits(alloc: Global, edits: &[Edit]) -> Result<Vec<Edit>, AllocError> {
@@ -66,6 +69,7 @@ pub fn may_go(edits: &[Edit], number: usize) -> bool {
                 ..
             },
         ) => matches!(command, Cmd::Barrier { .. }),
+        Some(Edit::Remove { .. }) => false,
         _ => true,
     }
 }
@@ -91,8 +95,7 @@ pub fn without_edit(alloc: Global, edits: &[Edit], number: usize) -> Result<Vec<
     Ok(fewer)
 }
 
-/// The edits with one access less in a barrier on all memory that one of them inserts; none where it
-/// hasn't that access. The only error is want of memory.
+/// The edits with one access less in a barrier that one of them inserts; none where it hasn't that access. The only error is want of memory.
 pub fn with_less(
     alloc: Global,
     edits: &[Edit],
@@ -128,37 +131,74 @@ pub fn with_less(
     Ok(if is_less { Some(all) } else { None })
 }
 
-/// A single element on all memory, with one access less.
+/// Elements with one access less each; none where no element has less then.
 fn lesser(
     alloc: Global,
     elements: &[Element],
     step: usize,
 ) -> Result<Option<Sequence<Element>>, AllocError> {
-    let Some(Element::Memory(dependency)) = elements.first() else {
-        return Ok(None);
-    };
-    let less = less_by(*dependency, step);
-    if elements.len() != 1 || less == *dependency {
-        return Ok(None);
+    let mut all = Vec::new(alloc);
+    let mut is_less = false;
+    for element in elements {
+        let less = less_of(element, step);
+        is_less = is_less || less != *element;
+        all.push(less)?;
     }
-    let elements = vec![in alloc; Element::Memory(less)]?;
-    Ok(Some(Sequence::new(elements)))
+    Ok(if is_less {
+        Some(Sequence::new(all))
+    } else {
+        None
+    })
 }
 
-/// A dependency with one access less: a read after it, a write after it, a write before it.
+/// An element with one access less; a half of a transfer of ownership keeps what it has.
+fn less_of(element: &Element, step: usize) -> Element {
+    match element {
+        Element::Memory(dependency) => Element::Memory(less_by(*dependency, step)),
+        Element::Buffer(range) => Element::Buffer(BufferElement {
+            dependency: less_within(range.families, range.dependency, step),
+            ..*range
+        }),
+        Element::Image(range) => Element::Image(ImageElement {
+            dependency: less_within(range.families, range.dependency, step),
+            ..*range
+        }),
+    }
+}
+
+/// The same of the dependency of an element with these families.
+fn less_within(families: Families, dependency: Dependency, step: usize) -> Dependency {
+    if families.source == families.destination {
+        less_by(dependency, step)
+    } else {
+        dependency
+    }
+}
+
+/// A dependency with one access less: a read after it, a write after it, a write before it; or without
+/// stages before it, where it has no access there.
 fn less_by(dependency: Dependency, step: usize) -> Dependency {
     let before = dependency.source_accesses.0;
     let after = dependency.destination_accesses.0;
     let reads = Accesses::TRANSFER_READ.0;
     let writes = Accesses::TRANSFER_WRITE.0;
-    let (before, after) = match step {
-        0 => (before, after & !reads),
-        1 => (before, after & !writes),
-        _ => (before & !writes, after),
-    };
-    Dependency {
-        source_accesses: Accesses(before),
-        destination_accesses: Accesses(after),
-        ..dependency
+    match step {
+        0 => Dependency {
+            destination_accesses: Accesses(after & !reads),
+            ..dependency
+        },
+        1 => Dependency {
+            destination_accesses: Accesses(after & !writes),
+            ..dependency
+        },
+        2 => Dependency {
+            source_accesses: Accesses(before & !writes),
+            ..dependency
+        },
+        _ if before == 0 => Dependency {
+            source_stages: Stages(0),
+            ..dependency
+        },
+        _ => dependency,
     }
 }

@@ -87,7 +87,8 @@ fn answered(
     earlier: &[Point<'_>],
     rule: Rule,
 ) -> Result<Option<Repair>, AllocError>
-    requires { IsMeasured refused.now }
+    requires measured { IsMeasured refused.now }
+    requires fault { first_fault refused.now.trace.now ≡ Some (refused.now.at, rule) }
     ensures { IfOk result (λ found. IfSome found (IsRepair refused.now.trace.now refused.now.at)) }
 {
     match chosen(alloc, refused, earlier, rule)? {
@@ -103,14 +104,15 @@ fn chosen(
     earlier: &[Point<'_>],
     rule: Rule,
 ) -> Result<Option<Repair>, AllocError>
-    requires { IsMeasured refused.now }
+    requires measured { IsMeasured refused.now }
+    requires fault { first_fault refused.now.trace.now ≡ Some (refused.now.at, rule) }
     ensures { IfOk result (λ found. IfSome found (IsRepair refused.now.trace.now refused.now.at)) }
 {
     let Candidates {
         lists,
         weaker,
         stand_ins,
-    } = sought(alloc, refused.trace, earlier, rule)?;
+    } = sought(alloc, refused.trace, earlier, refused.at, rule)?;
     let found = first_or_more(alloc, refused, earlier, rule, lists, PLAIN)?;
     if found.is_some() {
         return Ok(found);
@@ -132,14 +134,15 @@ fn first_or_more(
     lists: Vec<Vec<Edit>>,
     kind: Kind,
 ) -> Result<Option<Repair>, AllocError>
-    requires { IsMeasured refused.now }
+    requires measured { IsMeasured refused.now }
+    requires fault { first_fault refused.now.trace.now ≡ Some (refused.now.at, rule) }
     ensures { IfOk result (λ found. IfSome found (IsRepair refused.now.trace.now refused.now.at)) }
 {
     let found = first_of(alloc, refused, lists, kind)?;
     if found.is_some() || refused.size > MOST_FOR_MORE || refused.parts > FEW_PARTS {
         return Ok(found);
     }
-    let starts = sought(alloc, refused.trace, earlier, rule)?;
+    let starts = sought(alloc, refused.trace, earlier, refused.at, rule)?;
     let seconds = followed(alloc, refused.trace, refused.at, rule, &starts, kind)?;
     let pairs = edits_of(alloc, seconds.as_slice())?;
     let found = first_of(alloc, refused, pairs, kind)?;

@@ -1,9 +1,13 @@
-use crate::judging::judge;
+ghost use Rattle.std.specs.Prelude.{◌≡◌, Some};
+ghost use Rattle.vk_model.specs.Rules.Table.{first_fault};
+
+use crate::judging::{at_of, judge};
 use std::alloc::{AllocError, Global};
 use vk_candidates::{
     Candidates, Case, Edit, Kind, PLAIN, WEAKER, candidates, copy_of_edits, edited, has_removal,
     moved,
 };
+use vk_hazards::{Fact, fact_of_fault};
 use vk_model::{At, Entry, Point, Rule};
 use vk_queues::reference_order;
 
@@ -23,14 +27,18 @@ pub struct Trial {
     rule: Rule,
 }
 
-/// Lists of edits to try on a refused trace, of which the points before the refused one are given.
+/// Lists of edits to try on a refused trace, of which the first fault and the points before it are given.
 pub fn sought(
     alloc: Global,
     trace: &[Entry],
     earlier: &[Point<'_>],
+    at: At,
     rule: Rule,
-) -> Result<Candidates, AllocError> {
+) -> Result<Candidates, AllocError>
+    requires { first_fault trace.now ≡ Some (at, rule) }
+{
     let points = reference_order(alloc, trace)?;
+    let accessed = accessed_earlier(alloc, trace, earlier, at, rule)?;
     match points.get(earlier.len()) {
         Some(refused) => candidates(&Case {
             alloc,
@@ -38,9 +46,30 @@ pub fn sought(
             earlier,
             refused: *refused,
             rule,
+            accessed,
         }),
         None => Ok(Candidates::new(alloc)),
     }
+}
+
+/// Of a hazard the place of the earlier access among the points before the refused one.
+fn accessed_earlier(
+    alloc: Global,
+    trace: &[Entry],
+    earlier: &[Point<'_>],
+    at: At,
+    rule: Rule,
+) -> Result<Option<usize>, AllocError>
+    requires { first_fault trace.now ≡ Some (at, rule) }
+{
+    if !matches!(rule, Rule::HazardWar | Rule::HazardRaw | Rule::HazardWaw) {
+        return Ok(None);
+    }
+    let Some(Fact::Hazard(fact)) = fact_of_fault(alloc, trace, at, rule)? else {
+        return Ok(None);
+    };
+    let accessed = at_of(&fact.earlier.row.point);
+    Ok(earlier.iter().position(|point| at_of(point) == accessed))
 }
 
 /// The edits of trials.
@@ -166,7 +195,7 @@ fn gone_on(
     if trial.place.is_none() || trial.place == Some(at) && trial.rule == rule {
         return Ok(false);
     }
-    let found = sought(alloc, changed.as_slice(), judged.sound.as_slice(), rule)?;
+    let found = sought(alloc, changed.as_slice(), judged.sound.as_slice(), at, rule)?;
     let seconds = found.of_kind(kind);
     let is_some = !seconds.is_empty();
     for (count, second) in seconds.into_iter().enumerate() {

@@ -12,8 +12,8 @@ with_start-requires-clause-ordered c = ordered_points c.args.trace.now c.in_ok-p
 pub with_start-requires-clause-fault : goal.with_start-requires-clause-fault
 with_start-requires-clause-fault c = fault_of_points c.args.trace.now c.in_ok-points.points.items c.in_ok-points.ensures.order (Some (c.args.at, c.args.rule)) (sym c.requires)
 
-pub answered-requires : goal.answered-requires
-answered-requires c = record {
+pub answered-requires-clause-measured : goal.answered-requires-clause-measured
+answered-requires-clause-measured c = record {
   sound =
       c.len.ensures ∙ c.in-Some.start.sound.ok.0
       ∙ length_start c.args.trace.now c.in_ok-points.points.items c.in_ok-points.ensures.order c.in-Some.start.sound.items
