@@ -6,8 +6,9 @@ that are refused.
 
 Each fits docs/explanation.schema.json (skipped without jsonschema 4 or later). The edits of a repair are operations of
 JSON Patch: with them the trace has the verdict that the object says. With `--repaired` the edits of all repairs, one after
-another, make the trace that the object ends with, which is the one that `--repaired` writes alone. The identifiers of a refusal are some of those for
-which the rule book says that the rule stands, and each of these is known to the program.
+another, make the trace that the object ends with, which is the one that `--repaired` writes alone. The identifiers of a
+refusal are some of those for which the rule book says that the rule stands, each of these is known to the program,
+and the section that a refusal names is that of its rule.
 """
 
 import json
@@ -138,10 +139,13 @@ def same_tables():
 
 
 def named(text):
-    """Which identifier of a refusal the rule book doesn't have there, if one."""
+    """Which identifier of a refusal the rule book doesn't have there, if one, or that its section is another."""
     said = explained(text)
     if said["verdict"] != "refused":
         return None
+    page, _, section = said["section"].partition("#")
+    if section != said["rule"].lower() or f"\n## {said['rule']}\n" not in (TOP / page).read_text(encoding="utf-8"):
+        return f"no section {said['section']}"
     other = set(said["identifiers"]) - book()[said["rule"]]
     return f"{said['rule']}: {sorted(other)}" if other else None
 

@@ -1,13 +1,13 @@
 use std::alloc::{AllocError, Global};
-use vk_fact_words::{hazard_name, identifiers_of, right_in_vulkan};
+use vk_fact_words::{hazard_name, identifiers_of, push_section, right_in_vulkan};
 use vk_model::{At, Entry, Rule};
 
 /// How many identifiers a text names at most.
 const MOST_NAMED: usize = 4;
 
 /// The lines with what Vulkan has and isn't judged, where the point may be right there, with the name that
-/// validation layers give a hazard, and with the identifiers of valid usage for which the rule stands at
-/// the point, where there are some.
+/// validation layers give a hazard, with the identifiers of valid usage for which the rule stands at the point,
+/// where there are some, and with the section of the rule book.
 pub fn identifier_lines(
     alloc: Global,
     trace: &[Entry],
@@ -37,6 +37,9 @@ pub fn identifier_lines(
     if !found.is_empty() {
         lines.push_str("\n")?;
     }
+    lines.push_str("  rule book: ")?;
+    push_section(&mut lines, rule)?;
+    lines.push_str("\n")?;
     Ok(lines)
 }
 
@@ -58,7 +61,9 @@ pub fn push_identifier_members(
         members.push_str(name)?;
         members.push_str("\"")?;
     }
-    members.push_str(",\"identifiers\":[")?;
+    members.push_str(",\"section\":\"")?;
+    push_section(members, rule)?;
+    members.push_str("\",\"identifiers\":[")?;
     let found = identifiers_of(alloc, trace, at, rule)?;
     for (number, identifier) in found.iter().enumerate() {
         members.push_str(if number == 0 { "\"" } else { ",\"" })?;

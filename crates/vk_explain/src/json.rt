@@ -196,7 +196,7 @@ fn push_repair(
     let RepairSearch::Found(found) = found else {
         return members.push_str(",\"repair\":null");
     };
-    let words = words_of(alloc, trace, &found)?;
+    let words = words_of(alloc, trace, at, rule, &found)?;
     members.push_str(",\"repair\":{")?;
     push_repair_members(alloc, members, words)?;
     members.push_str("}")
@@ -230,6 +230,7 @@ fn push_repair_members(
         weaker,
         stands_in,
         edits,
+        relies_on,
     } = words;
     members.push_str("\"then\":")?;
     push_quoted(alloc, members, then)?;
@@ -241,7 +242,13 @@ fn push_repair_members(
         }
         push_edit(alloc, members, edit)?;
     }
-    members.push_str("]")
+    members.push_str("]")?;
+    if let Some(at) = relies_on {
+        members.push_str(",\"relies_on\":\"")?;
+        push_at(members, at)?;
+        members.push_str("\"")?;
+    }
+    Ok(())
 }
 
 /// The object on an edit: an operation of JSON Patch with its path, the point, what is done in words,

@@ -173,7 +173,7 @@ impl Faulted {
         mending.push_fault(at, rule)?;
         match sought(alloc, self.trace.as_slice(), at, rule)? {
             RepairSearch::Found(found) => {
-                let words = words_of(alloc, self.trace.as_slice(), &found)?;
+                let words = words_of(alloc, self.trace.as_slice(), at, rule, &found)?;
                 mending.push_repair(alloc, (at, rule), words, found.next)?;
                 let Repair {
                     edits: _,

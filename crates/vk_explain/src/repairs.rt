@@ -7,9 +7,10 @@ use crate::summary::summary_of;
 use std::alloc::{AllocError, Global};
 use vk_candidates::{Change, Edit, InBatch, Member};
 use vk_fact_words::is_unknown_here;
-use vk_model::{At, BufferImageCopy, Cmd, Entry, Rule};
+use vk_hazards::{Links, at_of, fact_of_fault, links_of_fact};
+use vk_model::{At, BufferImageCopy, Cmd, Element, Entry, Rule};
 use vk_repairs::{Repair, repair};
-use vk_words::{point_words, push_at};
+use vk_words::{kind_name, point_words, push_at};
 use vk_writer::{command_json, entry_json, submit_json};
 
 /// In a trace of more points no repair is sought, as each one that is tried is judged as a whole.
@@ -54,6 +55,8 @@ pub struct RepairWords {
     pub stands_in: bool,
     /// Each edit, in an order in which they come right one after another.
     pub edits: Vec<EditWords>,
+    /// What makes a write available that a barrier makes visible without an access in its first scope.
+    pub relies_on: Option<At>,
 }
 
 /// The repair of a refused trace, if one is found. The only error is want of memory.
@@ -93,7 +96,7 @@ pub fn repair_lines(
     }
     match sought(alloc, trace, at, rule)? {
         RepairSearch::Found(found) => {
-            let words = words_of(alloc, trace, &found)?;
+            let words = words_of(alloc, trace, at, rule, &found)?;
             lines_of(alloc, &words, found.next)
         }
         RepairSearch::Nothing => String::from_str(alloc, NONE_FOUND),
@@ -124,6 +127,8 @@ pub(crate) fn lines_of(
     lines.push_str(": with ")?;
     push_edits(&mut lines, words.edits.len())?;
     push_next(&mut lines, next)?;
+    lines.push_str(numbering(words))?;
+    lines.push_str("\n")?;
     for edit in &words.edits {
         lines.push_str("    ")?;
         lines.push_str(edit.point.as_str())?;
@@ -134,7 +139,29 @@ pub(crate) fn lines_of(
             lines.push_str("\n")?;
         }
     }
+    if let Some(at) = words.relies_on {
+        lines.push_str("    the barrier names no access before it, as ")?;
+        lines.push_str(kind_name(at))?;
+        push_at(&mut lines, at)?;
+        lines.push_str(" (before the edits) makes the write available\n")?;
+    }
     Ok(lines)
+}
+
+/// By which trace the points of several edits are numbered.
+fn numbering(words: &RepairWords) -> &'static str {
+    if words.edits.len() < 2 {
+        ""
+    } else if words
+        .edits
+        .as_slice()
+        .iter()
+        .any(|edit| edit.value.is_none())
+    {
+        "; points are numbered as in the changed trace, those taken out as in the given one"
+    } else {
+        "; points are numbered as in the changed trace"
+    }
 }
 
 fn repair_name(words: &RepairWords) -> &'static str {
@@ -155,22 +182,30 @@ fn push_edits(lines: &mut String, count: usize) -> Result<(), AllocError> {
     }
 }
 
-/// What is so after a repair, and the end of the line.
+/// What is so after a repair.
 fn push_next(lines: &mut String, next: Option<(At, Rule)>) -> Result<(), AllocError> {
     match next {
         Some((at, rule)) => {
             lines.push_str(" the next fault is at ")?;
             push_at(lines, at)?;
             lines.push_str(", by ")?;
-            lines.push_str(rule.name())?;
+            lines.push_str(rule.name())
         }
-        None => lines.push_str(" the trace is accepted")?,
+        None => lines.push_str(" the trace is accepted"),
     }
-    lines.push_str("\n")
 }
 
-/// A repair in words.
-pub fn words_of(alloc: Global, trace: &[Entry], found: &Repair) -> Result<RepairWords, AllocError> {
+/// A repair in words, of a trace whose first fault is given.
+pub fn words_of(
+    alloc: Global,
+    trace: &[Entry],
+    at: At,
+    rule: Rule,
+    found: &Repair,
+) -> Result<RepairWords, AllocError>
+    requires { first_fault trace.now ≡ Some (at, rule) }
+{
+    let relies_on = relies_on(alloc, trace, at, rule, found.edits.as_slice())?;
     let then = next_words(alloc, found.next)?;
     let mut edits = Vec::new(alloc);
     for one in &in_listed_order(alloc, found.edits.as_slice())? {
@@ -194,6 +229,52 @@ pub fn words_of(alloc: Global, trace: &[Entry], found: &Repair) -> Result<Repair
         weaker: found.weaker || is_elsewhere,
         stands_in: found.stands_in,
         edits,
+        relies_on,
+    })
+}
+
+/// What makes the write of a hazard available, where an edit inserts a barrier without an access in its first
+/// scope.
+fn relies_on(
+    alloc: Global,
+    trace: &[Entry],
+    at: At,
+    rule: Rule,
+    edits: &[Edit],
+) -> Result<Option<At>, AllocError>
+    requires { first_fault trace.now ≡ Some (at, rule) }
+{
+    if !edits.iter().any(is_bare) {
+        return Ok(None);
+    }
+    let fact = fact_of_fault(alloc, trace, at, rule)?;
+    match links_of_fact(alloc, trace, at, rule, &fact)? {
+        Some(links) => Ok(available_by(&links)),
+        None => Ok(None),
+    }
+}
+
+/// What makes the write of a hazard available.
+fn available_by(links: &Links<'_>) -> Option<At> {
+    let node = links.available?;
+    Some(at_of(&node.row.point))
+}
+
+/// Whether an edit inserts a barrier that names accesses after it, and none before it.
+fn is_bare(edit: &Edit) -> bool {
+    let Edit::Member {
+        change: Change::Insert,
+        member: Member::Command(Cmd::Barrier { elements }),
+        ..
+    } = edit
+    else {
+        return false;
+    };
+    elements.as_slice().iter().any(|element| match element {
+        Element::Memory(dependency) => {
+            dependency.source_accesses.0 == 0 && dependency.destination_accesses.0 != 0
+        }
+        _ => false,
     })
 }
 

@@ -1,12 +1,14 @@
 use crate::facts::push_byte;
 use crate::quoting::push_quoted;
 use std::alloc::{AllocError, Global};
-use vk_hazards::{Cause, IdleBarrier, IdleCause, Loss, Signaler, Undefined, User, at_of};
+use vk_hazards::{
+    Cause, IdleBarrier, IdleCause, LateRelease, Loss, Signaler, Undefined, User, at_of,
+};
 use vk_model::{At, Entry};
-use vk_words::{point_words, push_at};
+use vk_words::{kind_name, point_words, push_at};
 
 /// The lines on why a byte is undefined, what uses the object that ends, what would signal the value that
-/// is waited for, or which barrier doesn't serve.
+/// is waited for, which barrier doesn't serve, or which link of a transfer of ownership is missing.
 pub fn cause_lines(
     alloc: Global,
     trace: &[Entry],
@@ -55,6 +57,7 @@ fn cause_words(
         Some(Cause::Used(user)) => user_words(alloc, trace, *user),
         Some(Cause::Signaled(signaler)) => signaler_words(alloc, trace, *signaler),
         Some(Cause::Idle(idle)) => idle_words(alloc, trace, *idle),
+        Some(Cause::Late(late)) => late_words(alloc, trace, *late),
         None => Ok(Vec::new(alloc)),
     }
 }
@@ -198,6 +201,50 @@ fn idle_words(
     words.push(line)?;
     words.push(point_words(alloc, trace, at)?)?;
     Ok(words)
+}
+
+fn late_words(
+    alloc: Global,
+    trace: &[Entry],
+    late: LateRelease,
+) -> Result<Vec<String>, AllocError> {
+    let mut words = Vec::new(alloc);
+    let mut line = String::from_str(alloc, "missing: ")?;
+    let by = match late {
+        LateRelease::Signal(None) => {
+            line.push_str("a signal after the release, on its queue")?;
+            None
+        }
+        LateRelease::Signal(Some(signal)) => {
+            line.push_str("a signal that comes after the release; the stages of ")?;
+            push_called(&mut line, signal)?;
+            line.push_str(" leave it out")?;
+            Some(signal)
+        }
+        LateRelease::Wait(signal) => {
+            line.push_str("a wait for ")?;
+            push_called(&mut line, signal)?;
+            line.push_str(" on the queue of the acquire")?;
+            Some(signal)
+        }
+        LateRelease::Acquire(wait) => {
+            line.push_str("an order between ")?;
+            push_called(&mut line, wait)?;
+            line.push_str(", which the release comes before, and the acquire")?;
+            Some(wait)
+        }
+    };
+    words.push(line)?;
+    if let Some(at) = by {
+        words.push(point_words(alloc, trace, at)?)?;
+    }
+    Ok(words)
+}
+
+/// Adds what a point is called.
+fn push_called(out: &mut String, at: At) -> Result<(), AllocError> {
+    out.push_str(kind_name(at))?;
+    push_at(out, at)
 }
 
 fn called(alloc: Global, at: At, state: &str) -> Result<String, AllocError> {

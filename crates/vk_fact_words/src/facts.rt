@@ -137,6 +137,7 @@ fn answer_name(answer: bool) -> &'static str
     if answer { "yes" } else { "no" }
 }
 
+/// What kind of object an id has to be of.
 pub fn object_name(kind: ObjectKind) -> &'static str
     ensures { result.now ≡ text.object_text kind }
 {

@@ -20,6 +20,40 @@ pub fn identifiers_of(
     Ok(found)
 }
 
+/// Adds where the rule book has a rule: the page, and the section in it.
+pub fn push_section(out: &mut String, rule: Rule) -> Result<(), AllocError> {
+    out.push_str(page_of(rule))?;
+    out.push_str("#")?;
+    for letter in rule.name().chars() {
+        out.push(letter.to_ascii_lowercase())?;
+    }
+    Ok(())
+}
+
+/// The page of the rule book that has a rule.
+fn page_of(rule: Rule) -> &'static str {
+    match rule {
+        Rule::NewId
+        | Rule::LiveId
+        | Rule::Queue
+        | Rule::QueueKind
+        | Rule::Size
+        | Rule::Usage
+        | Rule::MemoryType
+        | Rule::MemorySize
+        | Rule::PoolSize
+        | Rule::BindRange
+        | Rule::BindAlign
+        | Rule::Aliased
+        | Rule::Range
+        | Rule::Align
+        | Rule::Overlap
+        | Rule::Format
+        | Rule::Subresource => "docs/RULES.md",
+        _ => "docs/RULES_HAZARDS.md",
+    }
+}
+
 /// Whether an identifier is of one of these calls.
 fn is_of_any(identifier: &str, calls: &[&str]) -> bool {
     for call in calls {

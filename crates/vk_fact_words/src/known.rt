@@ -2,8 +2,8 @@ use crate::facts::object_name;
 use crate::values::Values;
 use std::alloc::AllocError;
 use vk_hazards::{
-    Cause, CounterFact, DeadId, Fact, HazardFact, IdleCause, Life, Links, Loss, Missing, Placed,
-    Signaler, Undefined, User,
+    Cause, CounterFact, DeadId, Fact, HazardFact, IdleCause, LateRelease, Life, Links, Loss,
+    Missing, Placed, Signaler, Undefined, User,
 };
 use vk_model::Point;
 
@@ -94,7 +94,8 @@ fn push_placed(
     }
 }
 
-/// Adds why a byte is undefined, what uses an object, or what would signal a value.
+/// Adds why a byte is undefined, what uses an object, what would signal a value, which barrier doesn't serve, or
+/// which link of a transfer of ownership is missing.
 pub fn push_cause_values(out: &mut Values<'_>, cause: &Cause<'_>) -> Result<(), AllocError> {
     match cause {
         Cause::Undefined(undefined) => push_undefined(out, undefined),
@@ -129,6 +130,25 @@ pub fn push_cause_values(out: &mut Values<'_>, cause: &Cause<'_>) -> Result<(), 
                 }
                 IdleCause::Unchained => out.word("idle_as", "unchained"),
             }
+        }
+        Cause::Late(late) => push_late(out, *late),
+    }
+}
+
+fn push_late(out: &mut Values<'_>, late: LateRelease) -> Result<(), AllocError> {
+    match late {
+        LateRelease::Signal(None) => out.word("missing", "signal"),
+        LateRelease::Signal(Some(signal)) => {
+            out.word("missing", "signal")?;
+            out.place("signal", signal)
+        }
+        LateRelease::Wait(signal) => {
+            out.word("missing", "wait")?;
+            out.place("signal", signal)
+        }
+        LateRelease::Acquire(wait) => {
+            out.word("missing", "order")?;
+            out.place("awaited_by", wait)
         }
     }
 }

@@ -35,7 +35,7 @@ pub use causes::{cause_lines, cause_member};
 pub use either_way::{either_way_line, either_way_member};
 pub use facts::{fact_line, fact_member, points_named};
 pub use findings::{finding_line, finding_member};
-pub use identifiers::{hazard_name, identifiers_of};
+pub use identifiers::{hazard_name, identifiers_of, push_section};
 pub use in_vulkan::{is_unknown_here, right_in_vulkan};
 pub use links::{links_line, links_member};
 pub use quoting::push_quoted;

@@ -8,9 +8,13 @@ ghost use Rattle.vk_hazards.specs.Faults.{AreLinksOf};
 ghost use Rattle.vk_findings.specs.Reports.{IsReport, fault_in};
 
 use crate::findings::{Finding, finding_of};
+use crate::states::State;
 use std::alloc::{AllocError, Global};
-use vk_hazards::{Cause, Fact, Links, cause_of, fact_of_fault, links_of_fact};
+use vk_hazards::{
+    Cause, Fact, Halves, Links, at_of, cause_of, fact_of_fault, late_release, links_of_fact,
+};
 use vk_model::{At, Entry, Point, Rule};
+use vk_rules::OwnerFault;
 use vk_validate::refusal_of;
 
 /// What is known of the point at which a trace is refused.
@@ -27,8 +31,9 @@ pub struct Report<'a> {
     pub fact: Option<Fact<'a>>,
     /// Of a hazard which link is missing, and the nodes that the others are by.
     pub links: Option<Links<'a>>,
-    /// Why a byte is undefined, what uses an object that ends, what would signal an awaited value, or which
-    /// barrier between the accesses of a hazard doesn't serve.
+    /// Why a byte is undefined, what uses an object that ends, what would signal an awaited value, which
+    /// barrier between the accesses of a hazard doesn't serve, or which link between a release and its acquire
+    /// is missing.
     pub cause: Option<Cause<'a>>,
 }
 
@@ -50,6 +55,7 @@ pub fn report_of<'a>(
     let rule = refusal.rule;
     let finding = finding_of(alloc, &refusal.history, &refusal.point, rule)?;
     let Known { fact, links, cause } = known_of(alloc, entries, at, rule)?;
+    let cause = told_cause(alloc, entries, at, &finding, cause)?;
     Ok(Some(Report {
         at,
         rule,
@@ -58,6 +64,39 @@ pub fn report_of<'a>(
         links,
         cause,
     }))
+}
+
+/// The two halves of a transfer of ownership of which the first isn't known to come before the second.
+fn late_half(finding: &Option<Finding<'_>>, at: At) -> Option<Halves> {
+    match finding {
+        Some(Finding::State(State::OwnerPair(owner))) if owner.fault == OwnerFault::Unordered => {
+            let since = owner.owned.since?;
+            Some(Halves {
+                released: at_of(&since),
+                resource: owner.resource,
+                acquired: at,
+                element: owner.element,
+            })
+        }
+        _ => None,
+    }
+}
+
+/// Which link between a release and its acquire is missing, where one is; else the cause that is known.
+fn told_cause<'a>(
+    alloc: Global,
+    entries: &'a [Entry],
+    at: At,
+    finding: &Option<Finding<'a>>,
+    cause: Option<Cause<'a>>,
+) -> Result<Option<Cause<'a>>, AllocError> {
+    let Some(halves) = late_half(finding, at) else {
+        return Ok(cause);
+    };
+    match late_release(alloc, entries, halves)? {
+        Some(late) => Ok(Some(Cause::Late(late))),
+        None => Ok(None),
+    }
 }
 
 /// What is known of a refused point by the points before it.

@@ -2,6 +2,7 @@ use crate::before::{Split, points_until, split_of};
 use crate::busy::{User, user_of};
 use crate::facts::Fact;
 use crate::idle::{IdleBarrier, idle_barrier};
+use crate::releases::LateRelease;
 use crate::signalers::{Signaler, signaler_of};
 use crate::undefined::{Undefined, undefined_read};
 use std::alloc::{AllocError, Global};
@@ -18,6 +19,8 @@ pub enum Cause<'a> {
     Signaled(Signaler),
     /// A hazard: a barrier between the two accesses that doesn't serve.
     Idle(IdleBarrier<'a>),
+    /// OWNER_PAIR: which link between a release and its acquire is missing.
+    Late(LateRelease),
 }
 
 /// What is reported of the point that a trace is refused at, by this rule, beside this fact. None is

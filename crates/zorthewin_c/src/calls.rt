@@ -129,10 +129,10 @@ fn say(alloc: Global, trace: &[u8], wanted: Wanted, out: &mut [u8], length: &mut
 }
 
 /// Explains a trace in the form 0 (lines), 1 (a JSON object), 2 (the trace after repairs, and of the
-/// verdict that on it) or 3 (the object, with the repairs and the trace after them). It answers 0 where the trace is accepted, 1 where it is refused, 2 where the
-/// bytes are no trace, 4 where there is no memory, and 6 where the form isn't one that there is. Of 0, 1
-/// and 2 the text is written to `out`, as much as there is room for, and its whole length to `length`;
-/// else 0 is.
+/// verdict that on it) or 3 (the object, with the repairs and the trace after them). It answers 0 where the
+/// trace is accepted, 1 where it is refused, 2 where the bytes are no trace, 4 where there is no memory, and
+/// 6 where the form isn't one that there is. Of 0, 1 and 2 the text is written to `out`, as much as there is
+/// room for, and its whole length to `length`; else 0 is.
 #[unsafe(no_mangle)]
 pub extern "C" fn zw_explain(
     alloc: Global,
